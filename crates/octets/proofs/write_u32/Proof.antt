@@ -1,0 +1,30 @@
+-- `octets::write_u32` meets its contract: two bytes, and two after them. Assumes nothing.
+use borrow.Author.Needs.{needs}
+use native.Mathlib.Omega.{arith}
+use Rattle.octets.proofs.Write.{wrote-both}
+use Rattle.octets.proofs.write_u32.Statement.{statement}
+use Rattle.octets.proofs.write_u32.Tie as tie
+
+cast-write-u16 : tie.Need-cast-write-u16
+cast-write-u16 c = search needs
+
+write-u16-requires : tie.Need-write-u16-requires
+write-u16-requires c κs = search needs
+
+cast-write-u16-2 : tie.Need-cast-write-u16-2
+cast-write-u16-2 c = search needs
+
+write-u16-requires-2 : tie.Need-write-u16-requires-2
+write-u16-requires-2 c κs = search needs
+
+same-length : tie.Need-same-length
+same-length c = search needs
+
+returns : tie.Need-returns
+returns c =
+    let low = c .before .before .write-u162 .ensures in
+    let high = c .before .before .before .before .before .before .write-u16 .ensures in
+    (omega arith, wrote-both _ _ _ _ (high .1) (high .0) (low .1))
+
+pub write-u32-spec : {M : Type 1} → statement M
+write-u32-spec = tie.close (tie.spec cast-write-u16 write-u16-requires cast-write-u16-2 write-u16-requires-2 same-length returns)

@@ -1,0 +1,5 @@
+pub mod Tests
+pub mod Splice
+pub mod Suffix
+pub mod Lists
+pub mod Unique

@@ -1,0 +1,4 @@
+pub mod Sizes
+pub mod Refusal
+pub mod Choice
+pub mod Lists
