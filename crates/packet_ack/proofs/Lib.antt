@@ -1,0 +1,11 @@
+pub mod Bound
+pub mod Read
+pub mod Fill
+pub mod Decode
+pub mod Falling
+pub mod Pass
+pub mod Wrote
+pub mod Whole
+pub mod Encode
+pub mod Exactly
+pub mod Theorems

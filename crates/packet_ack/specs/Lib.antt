@@ -1,0 +1,4 @@
+pub mod Ack
+pub mod Write
+pub mod Layout
+pub mod Steps

@@ -1,0 +1,4 @@
+pub mod Slice
+pub mod Write
+pub mod Layout
+pub mod Steps

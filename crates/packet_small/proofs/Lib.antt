@@ -1,0 +1,9 @@
+pub mod Read
+pub mod Fill
+pub mod Decode
+pub mod Judge
+pub mod Wrote
+pub mod Encode
+pub mod Spelt
+pub mod Written
+pub mod Theorems

@@ -1,0 +1,5 @@
+pub mod Small
+pub mod Write
+pub mod Layout
+pub mod Steps
+pub mod Laws
