@@ -98,13 +98,16 @@ module _ (s : List ℕ) (at : ℕ) {r : Got} (e : numOf r ≡ var s at) where
           over : length t < RECORD * (k + 1)
           over = omega arith
 
-          pub table-full-r : fault 11 ≡ told (judged (ack s at) (length t))
+          table-full-r : fault 11 ≡ told (judged (ack s at) (length t))
           unfolding judged
           table-full-r = simp (is-packet, ranges, lt-leb _ _ over)
 
-          pub table-full-t : t ≡ tabled (judged (ack s at) (length t)) t
+          table-full-t : t ≡ tabled (judged (ack s at) (length t)) t
           unfolding judged tabled
           table-full-t = simp (is-packet, ranges, lt-leb _ _ over)
+
+          pub table-full : (fault 11 ≡ told (judged (ack s at) (length t))) × (t ≡ tabled (judged (ack s at) (length t)) t)
+          table-full = (table-full-r, table-full-t)
 
         module _ (t : List ℕ) (room : k < length t / RECORD) where
           within : RECORD * (k + 1) ≤ length t

@@ -68,7 +68,7 @@ exact-lowers zero above = exact-as f g (exact-give [])
 exact-lowers (suc k) above = exact-as f g (exact-then (exact-lower above) (λ r. exact-made (λ rs. r ∷ rs) (exact-lowers k (r .start))))
   where
     f : (at : ℕ) (rs : List Range) (bs : List ℕ) → Then (LowerAt above) (λ r. Made (λ rs. r ∷ rs) (LowersAt k (r .start))) at rs bs → LowersAt (suc k) above at rs bs
-    f at rs bs (both (lower-at {a = a} {b = b} n z v w) (made (lowers-at {bs = c} l e))) = rw (append-assoc a b c) (lowers-at (one-more n z v w l) (ap suc e))
+    f at rs bs (both (lower-at {gap = gap} {r = r} {a = a} {b = b} n z v w) (made (lowers-at {bs = c} l e))) = rw (append-assoc a b c) (lowers-at (one-more {above = above} {gap = gap} {r = r} (omega arith) z v w l) (ap suc e))
 
     g : (at : ℕ) (rs : List Range) (bs : List ℕ) → LowersAt (suc k) above at rs bs → Then (LowerAt above) (λ r. Made (λ rs. r ∷ rs) (LowersAt k (r .start))) at rs bs
     g at rs bs (lowers-at none-left e) = absurd (omega arith)

@@ -17,6 +17,13 @@ use Rattle.packet_ack.specs.Steps.{begun, stepped, below, fallingBelow, 
 use Rattle.packet_ack.specs.declared.Judgement.{Judgement}
 use Rattle.packet_ack.proofs.Falling.{whole, below-more}
 
+-- ---- one range more, as code finds its parts
+
+pub stepped-is : (j : Judgement) (r : Range) {s : Bool} {spare len gap apart : ℕ} → s ≡ sayable r → spare ≡ j .spare - len → len ≡ rangeLen gap r → gap ≡ apart - 1 → apart ≡ j .start - r .end
+    → record { sayable = j .sayable && s; rising = j .rising && ltb (r .end) (j .start) && ltb (r .start) (r .end); start = r .start; spare = spare } ≡ stepped j r
+unfolding stepped
+stepped-is j r a b c d e = simp (a, b, c, d, e)
+
 -- ---- a turn of the loop. X is what the whole pass reaches
 
 pub pass-none : (t : List ℕ) (k n : ℕ) {j j₀ b : Judgement} → k ≤ 0 → reached stepped j (below t k) ≡ reached stepped j₀ (below t n) → j₀ ≡ b → j ≡ reached stepped b (below t n)

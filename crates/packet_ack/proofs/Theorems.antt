@@ -92,6 +92,14 @@ spelt-sayable (packet {r = r} {rs = rs} v z w x y l) =
     let b : r .end ≤ LIMIT = omega arith in
     all-reverse sayable (r ∷ rs) ∙ simp (lt-ltb _ _ a, le-leb _ _ b) (fall-within (r .start) rs (omega arith) (lowers-fall l))
 
+-- and so is what is read, at any place of any bytes
+module _ (s : List ℕ) (at : ℕ) {p : Ack} {next : ℕ} (w : Bytes s) (e : ack s at ≡ ok p next) where
+  pub read-rising : rising (p .ranges) ≡ true
+  read-rising = spelt-rising (exact-ack .sound s at w e .says)
+
+  pub read-sayable : all sayable (p .ranges) ≡ true
+  read-sayable = spelt-sayable (exact-ack .sound s at w e .says)
+
 -- ---- 4. what the writer writes is a spelling
 
 size-spelt : (r : Range) → r .start < r .end → Sized (r .end - 1) (sizeLessOne r) r

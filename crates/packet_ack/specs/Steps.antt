@@ -83,6 +83,10 @@ unfoldable pub falling : List Range → Bool
 falling [] = false
 falling (r ∷ rs) = pick (ltb (r .start) (r .end)) (fallingBelow (r .start) rs) false
 
+-- type byte, v seq
+unfoldable pub startBytes : ℕ → List ℕ
+startBytes seq = typeByte ∷ varBytes seq
+
 -- v last value of the highest range, or v gap above a lower one; v its size less one
 unfoldable pub rangeBytes : ℕ → Range → List ℕ
 rangeBytes before r = varBytes before ++ varBytes (sizeLessOne r)
@@ -109,7 +113,3 @@ stepped j r =
       start = r .start;
       spare = j .spare - rangeLen (j .start - r .end - 1) r;
     }
-
--- type byte, v seq
-unfoldable pub startBytes : ℕ → List ℕ
-startBytes seq = typeByte ∷ varBytes seq

@@ -13,8 +13,14 @@ full : (c : tie.Else3) → c .before .before .before .before .before .args .pack
 full c = omega arith
 
 -- where every test has passed
-ready-at : (c : tie.Else6) → Ready (c .before .before .before .before .before .before .before .before .before .before .before .before .before .args .packet .sequence .0) (c .before .before .before .before .before .before .before .before .before .before .before .before .before .args .ranges .now) (c .before .before .before .before .before .before .before .before .before .before .before .before .before .args .packet .count) (c .before .before .before .before .before .before .before .before .before .before .before .before .before .args .at) (length (c .before .before .before .before .before .before .before .before .before .before .before .before .before .args .out .now))
-ready-at c = let e = full (c .before .before .before .before .before .before .before .before) in search ready
+abbrev start : tie.Else6 → tie.Start
+start c = c .before .before .before .before .before .before .before .before .before .before .before .before .before
+
+ready-at : (c : tie.Else6) → Ready (start c .args .packet .sequence .0) (start c .args .ranges .now) (start c .args .packet .count) (start c .args .at) (length (start c .args .out .now))
+ready-at c =
+    let j = c .before .before .before .before .before .before in
+    let k = j .before .before in
+    ready _ _ _ _ _ (k .before .before .if1 .left) (k .before .if2 .left) _ (full k) (j .before .minus .ensures) (j .judge .ensures) (c .before .before .before .before .before .if4 .left) (c .before .before .before .before .if5 .left) (c .before .before .before .form-len .ensures .0) (c .before .before .form-len2 .ensures .0) (omega arith)
 
 returns : tie.Need-returns
 returns c = (search bad-table, refl)

@@ -1,7 +1,7 @@
 -- `packet_ack::read_ack` meets its contract: what was read says which case of `ack` holds. Assumes nothing.
 use native.Mathlib.Omega.{arith}
 use borrow.Author.Needs.{needs}
-use Rattle.packet_ack.proofs.Decode.{refused, no-seq, no-highest, no-lower, walked-good, table-full-r, table-full-t, table-filled-r, table-filled-t}
+use Rattle.packet_ack.proofs.Decode.{refused, no-seq, no-highest, no-lower, walked-good, table-full, table-filled-r, table-filled-t}
 use Rattle.packet_ack.proofs.read_ack.Statement.{statement}
 use Rattle.packet_ack.proofs.read_ack.Tie as tie
 
@@ -36,7 +36,11 @@ enum-known-next : tie.Need-enum-known-next
 enum-known-next c = search needs
 
 returns-2 : tie.Need-returns-2
-returns-2 c = (search table-full-r, search table-full-t)
+returns-2 c =
+    let w = c .before .before .before .before in
+    let h = w .before .before .before .before in
+    let v = h .before .before .before .before in
+    table-full _ _ (v .get-varint .ensures) (h .before .before .seq .given .1) (h .read-highest .ensures) (w .before .before .start .given .1) (w .walk-lowers .ensures) (c .before .before .next .given .1) _ (omega arith)
 
 fill-table-requires : tie.Need-fill-table-requires
 fill-table-requires c κs = (search walked-good, omega arith)

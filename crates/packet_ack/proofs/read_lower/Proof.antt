@@ -22,7 +22,7 @@ add-if1 : tie.Need-add-if1
 add-if1 c = let g = read-below _ (c .before .before .before .before .shared-slice-known .given) _ (c .before .before .before .get-varint .ensures) (c .before .gap .given .1) in omega arith
 
 returns-2 : tie.Need-returns-2
-returns-2 c = search bad-gap
+returns-2 c = bad-gap _ _ _ (c .before .before .before .before .get-varint .ensures) (c .before .before .gap .given .1) (omega arith)
 
 sub-last : tie.Need-sub-last
 sub-last c = search needs
