@@ -1,0 +1,238 @@
+-- What the private functions answer, by the tests that led there. Assumes nothing.
+use Prim.Native.Nat.{ℕ, _+_, _-_, _*_, _≤_, _<_}
+use mathlib.Core.Path.{_≡_, refl, sym, ap, _∙_}
+use mathlib.Core.Bool.{Bool, true, false}
+use mathlib.Core.List.{List, [], _∷_}
+use mathlib.Core.Logic.{⊎-elim}
+use native.Mathlib.Omega.{arith}
+use borrow.Author.Tests.{lt-ltb, le-ltb, le-leb, lt-leb, eq-eqb, ne-eqb}
+use lib.Dec.{eqb}
+use lib.ListN.{getD, take, drop}
+use types.Run.{OneOf}
+use denote.Enum.Declared.{tagOf}
+use Rattle.words.specs.Sizes.{SLICE_SIZE, SLOTS, LANES, LIMIT}
+use Rattle.words.specs.Choice.{pick}
+use Rattle.words.specs.Lists.{lowestFree}
+use Rattle.channel.specs.Settings.{storesHold}
+use Rattle.slice_constructor.specs.declared.SliceConstructor.{SliceConstructor}
+use Rattle.slice_constructor.specs.Collect as c
+use Rattle.receive_reliable.specs.Receive.{cellOf, laneOf, inCell, inLane, isHeld, ignores, Outcome, taken, ignored, refused, arrivalOf, judged, entryRefusal, messageRefusal, MessageSpot, cell, nowhere, messageSpot, SliceSpot, opened, fresh, nothing, countRefusal, freshRefusal, constructorAt, Waiting, message, lookOf, partAt, Valid}
+use Rattle.receive_reliable.specs.Steps.{heldIn, entryOf, openLane, freshLane, laneSpot}
+use Rattle.receive_reliable.specs.declared.ReceiveChannelReliable.{ReceiveChannelReliable}
+use Rattle.receive_reliable.specs.declared.Store.the-variants.{Small, Lanes}
+use Rattle.receive_reliable.specs.declared.Held.the-variants as held
+use Rattle.receive_reliable.specs.declared.Arrival.{Arrival}
+use Rattle.receive_reliable.proofs.Arrival.{the-type}
+use Rattle.receive_reliable.specs.declared.Look.{Look}
+use Rattle.receive_reliable.specs.declared.Look.the-variants as look
+use Rattle.receive_reliable.proofs.Look as Look′
+use Rattle.receive_reliable.specs.declared.Arrival.the-variants as arrival
+use Rattle.receive_reliable.proofs.Lists.{getD-any, part-size}
+
+-- ---- whether a search found something
+
+module _ (s : ReceiveChannelReliable) (id l : ℕ) (el : l ≡ laneOf s id) where
+  lane-yes : l < LANES → inLane s id ≡ true
+  lane-yes h = lt-ltb (laneOf s id) LANES (omega arith)
+
+  lane-no : LANES ≤ l → inLane s id ≡ false
+  lane-no h = le-ltb (laneOf s id) LANES (omega arith)
+
+-- ---- a whole message
+
+module _ (s : ReceiveChannelReliable) (id i : ℕ) (ei : i ≡ cellOf s id) where
+  pub in-cell : i < SLOTS → held.At Small i ≡ heldIn s id
+  unfolding heldIn
+  in-cell h = let t : inCell s id ≡ true = lt-ltb (cellOf s id) SLOTS (omega arith) in rw t (ap (held.At Small) ei)
+
+  module _ (past : SLOTS ≤ i) (l : ℕ) (el : l ≡ laneOf s id) where
+    no-cell : inCell s id ≡ false
+    no-cell = le-ltb (cellOf s id) SLOTS (omega arith)
+
+    pub in-lane : l < LANES → getD (s .whole) l false ≡ true → held.At Lanes l ≡ heldIn s id
+    unfolding heldIn
+    in-lane h w =
+        let u : getD (s .whole) (laneOf s id) false ≡ true = rw (← el) w in
+        rw (no-cell, lane-yes s id l el h, u) (ap (held.At Lanes) el)
+
+    pub in-part : l < LANES → getD (s .whole) l false ≡ false → held.Nothing ≡ heldIn s id
+    unfolding heldIn
+    in-part h w =
+        let u : getD (s .whole) (laneOf s id) false ≡ false = rw (← el) w in
+        rw (no-cell, lane-yes s id l el h, u)
+
+    pub in-none : LANES ≤ l → held.Nothing ≡ heldIn s id
+    unfolding heldIn
+    in-none h = rw (no-cell, lane-no s id l el h)
+
+-- ---- what every arrival is judged by first
+
+module _ (s : ReceiveChannelReliable) (id small lane : ℕ) where
+  pub bad-store : storesHold (s .settings) small lane ≡ false → refused 10 ≡ entryOf s id small lane
+  unfolding entryOf entryRefusal
+  bad-store h = rw h
+
+  module _ (h : storesHold (s .settings) small lane ≡ true) where
+    pub bad-number : LIMIT ≤ id → refused 13 ≡ entryOf s id small lane
+    unfolding entryOf entryRefusal
+    bad-number n = rw (h, le-leb _ _ n)
+
+    module _ (n : id < LIMIT) where
+      pub old-id : id < s .«oldest_pending_message_id» → ignored ≡ entryOf s id small lane
+      unfolding entryOf entryRefusal ignores
+      old-id o = rw (h, lt-leb _ _ n, lt-ltb _ _ o)
+
+      pub new-id : s .«oldest_pending_message_id» ≤ id → (b : Bool) → isHeld s id ≡ b → pick b ignored taken ≡ entryOf s id small lane
+      unfolding entryOf entryRefusal ignores
+      new-id o b e = rw (h, lt-leb _ _ n, le-ltb _ _ o, e)
+
+-- on to m where what arrives may be taken, else told as f says
+going : {A : Type 0} → (Outcome → A) → A → Outcome → A
+going f m taken = m
+going f m ignored = f ignored
+going f m (refused e) = f (refused e)
+
+gone : {A : Type 0} (f : Outcome → A) (m : A) (a b : Bool) (x : ℕ) → going f m (pick a (pick b ignored taken) (refused x)) ≡ pick a (pick b (f ignored) m) (f (refused x))
+unfolding going
+gone f m true true x = refl
+gone f m true false x = refl
+gone f m false b x = refl
+
+stops : {A : Type 0} (f : Outcome → A) (m : A) (a : Arrival) → OneOf (1 ∷ 2 ∷ []) (tagOf the-type a) → f (arrivalOf a) ≡ going f m (arrivalOf a)
+unfolding going
+stops f m arrival.Taken k = ⊎-elim (λ e. absurd (omega arith)) (λ e. absurd (omega arith)) k
+stops f m arrival.Ignored k = refl
+stops f m (arrival.Refused e) k = refl
+
+-- ---- a small message
+
+module _ (s : ReceiveChannelReliable) (id n small lane : ℕ) where
+  messageOn : MessageSpot
+  messageOn = judged (messageRefusal s id n) (λ e. nowhere (refused e)) (cell (lowestFree (s .cells) (s .settings .slots)))
+
+  message-goes : going nowhere messageOn (entryOf s id small lane) ≡ messageSpot s id n small lane
+  unfolding messageOn entryOf messageSpot
+  message-goes = gone nowhere messageOn (eqb (entryRefusal s id small lane) 0) (ignores s id) (entryRefusal s id small lane)
+
+  pub message-stops : (a : Arrival) → arrivalOf a ≡ entryOf s id small lane → OneOf (1 ∷ 2 ∷ []) (tagOf the-type a) → nowhere (arrivalOf a) ≡ messageSpot s id n small lane
+  message-stops a e k = stops nowhere messageOn a k ∙ ap (going nowhere messageOn) e ∙ message-goes
+
+  module _ (go : taken ≡ entryOf s id small lane) where
+    message-on : messageOn ≡ messageSpot s id n small lane
+    unfolding going
+    message-on = ap (going nowhere messageOn) go ∙ message-goes
+
+    pub too-long : SLICE_SIZE < n → nowhere (refused 12) ≡ messageSpot s id n small lane
+    unfolding messageOn messageRefusal
+    too-long h = rw (lt-ltb _ _ h) at message-on
+
+    module _ (short : n ≤ SLICE_SIZE) (l : ℕ) (el : l ≡ laneOf s id) where
+      pub wrong-kind : l < LANES → nowhere (refused 16) ≡ messageSpot s id n small lane
+      unfolding messageOn messageRefusal
+      wrong-kind h = rw (le-ltb _ _ short, lane-yes s id l el h) at message-on
+
+      module _ (no-lane : LANES ≤ l) where
+        t : inLane s id ≡ false
+        t = lane-no s id l el no-lane
+
+        pub no-memory : s .settings .«max_memory_usage_bytes» < s .«memory_usage_bytes» + n → nowhere (refused 7) ≡ messageSpot s id n small lane
+        unfolding messageOn messageRefusal
+        no-memory h = rw (le-ltb _ _ short, t, lt-ltb _ _ h) at message-on
+
+        module _ (memory : s .«memory_usage_bytes» + n ≤ s .settings .«max_memory_usage_bytes») (i : ℕ) (ei : i ≡ lowestFree (s .cells) (s .settings .slots)) where
+          pub no-cell-free : s .settings .slots ≤ i → nowhere (refused 11) ≡ messageSpot s id n small lane
+          unfolding messageOn messageRefusal
+          no-cell-free h = rw (le-ltb _ _ short, t, le-ltb _ _ memory, ← ei, le-leb _ _ h) at message-on
+
+          pub cell-free : i < s .settings .slots → cell i ≡ messageSpot s id n small lane
+          unfolding messageOn messageRefusal
+          cell-free h = rw (le-ltb _ _ short, t, le-ltb _ _ memory, ← ei, lt-leb _ _ h) at message-on
+
+-- ---- a piece
+
+module _ (s : ReceiveChannelReliable) (id num small lane : ℕ) where
+  sliceOn : SliceSpot
+  sliceOn = judged (countRefusal s num) (λ e. nothing (refused e)) (pick (inLane s id) (openLane s (laneOf s id) num) (freshLane s num))
+
+  slice-goes : going nothing sliceOn (entryOf s id small lane) ≡ laneSpot s id num small lane
+  unfolding sliceOn entryOf laneSpot
+  slice-goes = gone nothing sliceOn (eqb (entryRefusal s id small lane) 0) (ignores s id) (entryRefusal s id small lane)
+
+  pub slice-stops : (a : Arrival) → arrivalOf a ≡ entryOf s id small lane → OneOf (1 ∷ 2 ∷ []) (tagOf the-type a) → nothing (arrivalOf a) ≡ laneSpot s id num small lane
+  slice-stops a e k = stops nothing sliceOn a k ∙ ap (going nothing sliceOn) e ∙ slice-goes
+
+  module _ (go : taken ≡ entryOf s id small lane) where
+    slice-on : sliceOn ≡ laneSpot s id num small lane
+    unfolding going
+    slice-on = ap (going nothing sliceOn) go ∙ slice-goes
+
+    pub no-pieces : num ≡ 0 → nothing (refused 8) ≡ laneSpot s id num small lane
+    unfolding sliceOn countRefusal
+    no-pieces h = rw (eq-eqb _ _ h) at slice-on
+
+    module _ (some : num ≡ 0 → ⊥) where
+      pub too-many : s .settings .pieces < num → nothing (refused 12) ≡ laneSpot s id num small lane
+      unfolding sliceOn countRefusal
+      too-many h = rw (ne-eqb _ _ some, lt-ltb _ _ h) at slice-on
+
+      module _ (most : num ≤ s .settings .pieces) (l : ℕ) (el : l ≡ laneOf s id) (x : SliceSpot) where
+        pub is-open : l < LANES → x ≡ openLane s l num → x ≡ laneSpot s id num small lane
+        unfolding sliceOn countRefusal
+        is-open h e =
+            e ∙ rw (ne-eqb _ _ some, le-ltb _ _ most, lane-yes s id l el h, ← el) at slice-on
+
+        pub is-fresh : LANES ≤ l → x ≡ freshLane s num → x ≡ laneSpot s id num small lane
+        unfolding sliceOn countRefusal
+        is-fresh h e =
+            e ∙ rw (ne-eqb _ _ some, le-ltb _ _ most, lane-no s id l el h) at slice-on
+
+-- a lane that is free
+
+module _ (s : ReceiveChannelReliable) (num : ℕ) where
+  pub no-memory-left : s .settings .«max_memory_usage_bytes» < s .«memory_usage_bytes» + SLICE_SIZE * num → nothing (refused 7) ≡ freshLane s num
+  unfolding freshLane freshRefusal
+  no-memory-left h = rw (lt-ltb _ _ h)
+
+  module _ (memory : s .«memory_usage_bytes» + SLICE_SIZE * num ≤ s .settings .«max_memory_usage_bytes») (l : ℕ) (el : l ≡ lowestFree (s .lanes) (s .settings .lanes)) where
+    pub no-lane-free : s .settings .lanes ≤ l → nothing (refused 11) ≡ freshLane s num
+    unfolding freshLane freshRefusal
+    no-lane-free h = rw (le-ltb _ _ memory, ← el, le-leb _ _ h)
+
+    pub lane-free : l < s .settings .lanes → fresh l ≡ freshLane s num
+    unfolding freshLane freshRefusal
+    lane-free h = rw (le-ltb _ _ memory, ← el, lt-leb _ _ h)
+
+-- a lane that is open
+
+module _ (s : ReceiveChannelReliable) (v : Valid s) (l : ℕ) (low : l < LANES) (d : SliceConstructor) where
+  pub constructor-here : getD (s .constructors) l d ≡ constructorAt s l
+  constructor-here = getD-any (s .constructors) l d (c.blankOf 0 0) (omega (arith, v .constructors-long))
+
+  module _ (num n : ℕ) (e : n ≡ getD (s .constructors) l d .«num_slices») where
+    so : n ≡ constructorAt s l .«num_slices»
+    so = rw constructor-here at e
+
+    pub same-count : n ≡ num → opened l ≡ openLane s l num
+    unfolding openLane
+    same-count h = rw (eq-eqb _ _ (sym so ∙ h))
+
+    pub other-count : (n ≡ num → ⊥) → nothing (refused 8) ≡ openLane s l num
+    unfolding openLane
+    other-count h = rw (ne-eqb _ _ (λ k. h (so ∙ k)))
+
+-- ---- the part that a look shows
+
+module _ (w : Waiting) (small lane : List ℕ) where
+  pub no-part : (a : Look) → lookOf a ≡ w → OneOf (1 ∷ 2 ∷ []) (tagOf Look′.the-type a) → [] ≡ partAt w small lane
+  no-part a e k = empty a k ∙ ap (λ (x : Waiting). partAt x small lane) e where
+    empty : (a : Look) → OneOf (1 ∷ 2 ∷ []) (tagOf Look′.the-type a) → [] ≡ partAt (lookOf a) small lane
+    empty (look.Message id store place len) k = ⊎-elim (λ e. absurd (omega arith)) (λ e. absurd (omega arith)) k
+    empty look.Nothing k = refl
+    empty (look.Refused e) k = refl
+
+  module _ (id place len : ℕ) where
+    pub small-part : w ≡ message id Small place len → take (place + len - place) (drop place small) ≡ partAt w small lane
+    small-part e = rw (e, part-size place len)
+
+    pub lane-part : w ≡ message id Lanes place len → take (place + len - place) (drop place lane) ≡ partAt w small lane
+    lane-part e = rw (e, part-size place len)

@@ -1,0 +1,6 @@
+pub mod Lists
+pub mod Valid
+pub mod Spots
+pub mod Answers
+pub mod Gives
+pub mod Theorems

@@ -1,0 +1,56 @@
+-- `ReceiveChannelReliable::message_place` meets its contract: each answer by the tests that led to it. Assumes nothing.
+use mathlib.Core.Path.{sym, ap, _∙_}
+use Rattle.receive_reliable.specs.Receive.{arrivalOf}
+use Rattle.receive_reliable.proofs.Answers.{message-stops, too-long, wrong-kind, no-memory, no-cell-free, cell-free}
+use borrow.Author.Needs.{needs}
+use Rattle.receive_reliable.proofs.ReceiveChannelReliable.message_place.Statement.{statement}
+use Rattle.receive_reliable.proofs.ReceiveChannelReliable.message_place.Tie as tie
+
+entry-requires : tie.Need-entry-requires
+entry-requires c κs = search needs
+
+enum-told : tie.Need-enum-told
+enum-told c = search needs
+
+returns : tie.Need-returns
+returns c = message-stops _ _ _ _ _ (c .before .entry .result) (c .before .entry .ensures) (c .match .keys2)
+
+returns-2 : tie.Need-returns-2
+returns-2 c = too-long _ _ _ _ _ (sym (ap arrivalOf (c .before .enum-told .given .1)) ∙ c .before .before .before .entry .ensures) (c .if1 .taken)
+
+find-requires : tie.Need-find-requires
+find-requires c κs = search needs
+
+returns-3 : tie.Need-returns-3
+returns-3 c = wrong-kind _ _ _ _ _ (sym (ap arrivalOf (c .before .before .before .before .before .before .before .before .enum-told .given .1)) ∙ c .before .before .before .before .before .before .before .before .before .before .entry .ensures) (c .before .before .before .before .before .before .before .if1 .left) _ (c .before .find .ensures) (c .if2 .taken)
+
+add-if3 : tie.Need-add-if3
+add-if3 c = search needs
+
+returns-4 : tie.Need-returns-4
+returns-4 c = no-memory _ _ _ _ _ (sym (ap arrivalOf (c .before .before .before .before .before .before .before .before .before .enum-told .given .1)) ∙ c .before .before .before .before .before .before .before .before .before .before .before .entry .ensures) (c .before .before .before .before .before .before .before .before .if1 .left) _ (c .before .before .find .ensures) (c .before .if2 .left) (c .if3 .taken)
+
+lowest-free-requires : tie.Need-lowest-free-requires
+lowest-free-requires c κs = search needs
+
+returns-5 : tie.Need-returns-5
+returns-5 c = no-cell-free _ _ _ _ _ (sym (ap arrivalOf (c .before .before .before .before .before .before .before .before .before .before .before .before .before .before .enum-told .given .1)) ∙ c .before .before .before .before .before .before .before .before .before .before .before .before .before .before .before .before .entry .ensures) (c .before .before .before .before .before .before .before .before .before .before .before .before .before .if1 .left) _ (c .before .before .before .before .before .before .before .find .ensures) (c .before .before .before .before .before .before .if2 .left) (c .before .before .before .before .before .if3 .left) _ (c .before .lowest-free .ensures) (c .if4 .taken)
+
+returns-6 : tie.Need-returns-6
+returns-6 c = cell-free _ _ _ _ _ (sym (ap arrivalOf (c .before .before .before .before .before .before .before .before .before .before .before .before .before .before .enum-told .given .1)) ∙ c .before .before .before .before .before .before .before .before .before .before .before .before .before .before .before .before .entry .ensures) (c .before .before .before .before .before .before .before .before .before .before .before .before .before .if1 .left) _ (c .before .before .before .before .before .before .before .find .ensures) (c .before .before .before .before .before .before .if2 .left) (c .before .before .before .before .before .if3 .left) _ (c .before .lowest-free .ensures) (c .if4 .left)
+
+pub message-place-spec : {M : Type 1} → statement M
+message-place-spec =
+    tie.close
+    (tie.spec
+    entry-requires
+    enum-told
+    returns
+    returns-2
+    find-requires
+    returns-3
+    add-if3
+    returns-4
+    lowest-free-requires
+    returns-5
+    returns-6)

@@ -1,0 +1,60 @@
+-- `ReceiveChannelReliable::process_message` meets its contract: the cell has room for the message. Assumes nothing.
+use mathlib.Core.Path.{_≡_, sym, ap, _∙_}
+use native.Mathlib.Omega.{arith}
+use lib.ListN.{length}
+use Rattle.receive_reliable.specs.Receive.{messageSpot, cell}
+use Rattle.receive_reliable.specs.Steps.{messagePlaceOf}
+use Rattle.receive_reliable.proofs.Spots.{spot-cell}
+use Rattle.receive_reliable.proofs.Gives.{message-left, message-taken}
+use borrow.Author.Needs.{needs}
+use Rattle.receive_reliable.proofs.ReceiveChannelReliable.process_message.Statement.{statement}
+use Rattle.receive_reliable.proofs.ReceiveChannelReliable.process_message.Tie as tie
+
+-- the cell that the message goes to
+in-cell : (c : tie.After-place2) → (let a = c .before .before .before .before .before .before .args in
+    messageSpot (a .self) (a .message-id .0) (length (a .message .now)) (length (a .small .now)) (length (a .lanes .now)) ≡ cell (c .place2 .given .0 .0))
+in-cell c = sym (c .before .before .message-place .ensures) ∙ ap messagePlaceOf (c .place2 .given .1)
+
+message-place-requires : tie.Need-message-place-requires
+message-place-requires c κs = search needs
+
+enum-known-place : tie.Need-enum-known-place
+enum-known-place c = search needs
+
+enum-known-place-2 : tie.Need-enum-known-place-2
+enum-known-place-2 c = search needs
+
+mul-write-bytes : tie.Need-mul-write-bytes
+mul-write-bytes c = let v = c .before .before .before .before .before .before .before .before .pre in omega (arith, spot-cell _ v _ _ _ _ _ (in-cell (c .before .before)) .1 .low, v .settings .slots-most)
+
+write-bytes-requires : tie.Need-write-bytes-requires
+write-bytes-requires c κs = let p = spot-cell _ (c .before .before .before .before .before .before .before .before .pre) _ _ _ _ _ (in-cell (c .before .before)) in omega (arith, p .0 .small-room, p .1 .low, p .1 .short)
+
+with-message-requires : tie.Need-with-message-requires
+with-message-requires c κs =
+    let v = c .before .before .before .before .before .before .before .before .before .before .before .pre in
+    let p = spot-cell _ v _ _ _ _ _ (in-cell (c .before .before .before .before .before)) .1 in
+    (v, (omega (arith, p .low, v .settings .slots-most)), p .memory)
+
+returns : tie.Need-returns
+returns c = message-left _ (c .before .before .before .before .before .before .before .pre) _ _ _ _ _ (sym (c .before .before .before .message-place .ensures) ∙ ap messagePlaceOf (c .before .place .given .1))
+
+same-length : tie.Need-same-length
+same-length c = search needs
+
+returns-2 : tie.Need-returns-2
+returns-2 c = message-taken _ (c .before .before .before .before .before .before .before .before .before .before .before .before .pre) _ _ _ _ _ _ _ (in-cell (c .before .before .before .before .before .before)) (c .before .before .before .write-bytes .ensures .1) (c .with-message .ensures)
+
+pub process-message-spec : {M : Type 1} → statement M
+process-message-spec =
+    tie.close
+    (tie.spec
+    message-place-requires
+    enum-known-place
+    enum-known-place-2
+    mul-write-bytes
+    write-bytes-requires
+    with-message-requires
+    returns
+    same-length
+    returns-2)

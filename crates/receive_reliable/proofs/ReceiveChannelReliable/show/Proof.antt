@@ -1,0 +1,72 @@
+-- `ReceiveChannelReliable::show` meets its contract: the cell or lane is one of the table's, and its place fits. Assumes nothing.
+use Prim.Native.Nat.{_<_}
+use mathlib.Core.Path.{ap, _∙_}
+use native.Mathlib.Omega.{arith}
+use Rattle.words.specs.Sizes.{SLOTS, LANES}
+use Rattle.channel.proofs.Good.{lane-end}
+use Rattle.receive_reliable.specs.declared.Held.the-variants.{At}
+use Rattle.receive_reliable.proofs.Spots.{small-held, lane-held}
+use borrow.Author.Needs.{needs}
+use Rattle.receive_reliable.proofs.ReceiveChannelReliable.show.Statement.{statement}
+use Rattle.receive_reliable.proofs.ReceiveChannelReliable.show.Tie as tie
+
+-- the cell and the lane are within their tables
+cell-low : (c : tie.After-enum-told) → c .before .before .args .i < SLOTS
+cell-low c =
+    let h = small-held _ _ (c .before .before .pre .0) _ (c .before .before .pre .1 ∙ ap (λ x. At x (c .before .before .args .i)) (c .enum-told .given .1)) in
+    omega (arith, h .0, c .before .before .pre .0 .settings .slots-most)
+
+lane-in : (c : tie.After-enum-told2) → c .before .before .args .i < c .before .before .args .t1 .settings .lanes
+lane-in c = lane-held _ _ (c .before .before .pre .0) _ (c .before .before .pre .1 ∙ ap (λ x. At x (c .before .before .args .i)) (c .enum-told2 .given .1)) .0
+
+lane-low : (c : tie.After-enum-told2) → c .before .before .args .i < LANES
+lane-low c = omega (arith, lane-in c, c .before .before .pre .0 .settings .lanes-most)
+
+enum-told : tie.Need-enum-told
+enum-told c = search needs
+
+mul-len : tie.Need-mul-len
+mul-len c = let h = cell-low c in omega arith
+
+element-copy-out-len : tie.Need-element-copy-out-len
+element-copy-out-len c = let h = cell-low c in omega arith
+
+mul-t10 : tie.Need-mul-t10
+mul-t10 c = let h = cell-low (c .before) in omega arith
+
+enum-told-2 : tie.Need-enum-told-2
+enum-told-2 c = search needs
+
+mul-len-2 : tie.Need-mul-len-2
+mul-len-2 c = let h = lane-low c in omega arith
+
+element-copy-out-len-2 : tie.Need-element-copy-out-len-2
+element-copy-out-len-2 c = let h = lane-low c in omega arith
+
+mul-size : tie.Need-mul-size
+mul-size c = search needs
+
+mul-t19 : tie.Need-mul-t19
+mul-t19 c = omega (arith, lane-end (c .before .before .before .args .t1 .settings) (c .before .before .before .pre .0 .settings) (c .before .before .before .args .i) (lane-in (c .before)))
+
+returns : tie.Need-returns
+returns c = rw (c .before .enum-told .given .1)
+
+returns-2 : tie.Need-returns-2
+returns-2 c = rw (c .before .enum-told2 .given .1)
+
+pub show-spec : {M : Type 1} → statement M
+show-spec =
+    tie.close
+    (tie.spec
+    enum-told
+    mul-len
+    element-copy-out-len
+    mul-t10
+    enum-told-2
+    mul-len-2
+    element-copy-out-len-2
+    mul-size
+    mul-t19
+    returns
+    returns-2)

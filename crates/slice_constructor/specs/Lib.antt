@@ -1,0 +1,4 @@
+pub mod Collect
+pub mod Whole
+pub mod Steps
+pub mod Arrivals
