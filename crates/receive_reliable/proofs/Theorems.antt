@@ -84,8 +84,8 @@ look-undone (look.Message id store place len) = refl
 look-undone look.Nothing = refl
 look-undone (look.Refused e) = ap look.Refused (refusal-undone e)
 
-pub one-look : (a b : Look) → lookOf a ≡ lookOf b → a ≡ b
-one-look = told-apart lookOf lookFrom look-undone
+same-look : (a b : Look) → lookOf a ≡ lookOf b → a ≡ b
+same-look = told-apart lookOf lookFrom look-undone
 
 pub one-made : (s : Settings) (r q : Made) → MadeGives s r → MadeGives s q → r ≡ q
 one-made s r q x y =
@@ -108,9 +108,12 @@ pub one-slice : (s : ReceiveChannelReliable) (id num i : ℕ) (bs small lane lan
 one-slice s id num i bs small lane lane₁ lane₂ r q x y =
     (one-arrived r q (x .answer ∙ sym (y .answer)) (x .state ∙ sym (y .state)), x .bytes ∙ sym (y .bytes))
 
+pub one-look : (s : ReceiveChannelReliable) (small lane : ℕ) (a b : Look) → lookOf a ≡ lookAt s small lane → lookOf b ≡ lookAt s small lane → a ≡ b
+one-look s small lane a b x y = same-look a b (x ∙ sym y)
+
 pub one-take : (s : ReceiveChannelReliable) (r q : Received) → TakeGives s r → TakeGives s q → r ≡ q
 one-take s r q x y =
-    ap (λ (b : Look). record { answer = b; state = r .state }) (one-look (r .answer) (q .answer) (x .answer ∙ sym (y .answer)))
+    ap (λ (b : Look). record { answer = b; state = r .state }) (same-look (r .answer) (q .answer) (x .answer ∙ sym (y .answer)))
     ∙ ap (λ (u : ReceiveChannelReliable). record { answer = q .answer; state = u }) (x .state ∙ sym (y .state))
 
 -- ---- a look and a take
@@ -123,7 +126,7 @@ module _ (s : ReceiveChannelReliable) where
   unfolding lookAt
   look-is-take small lane a part r h ea ep g =
       let e : lookAt s (length small) (length lane) ≡ lookOf (r .answer) = rw h (sym (g .answer)) in
-      (one-look a (r .answer) (ea ∙ e), ep ∙ ap (λ (w : Waiting). partAt w small lane) e)
+      (same-look a (r .answer) (ea ∙ e), ep ∙ ap (λ (w : Waiting). partAt w small lane) e)
 
   waiting-tests : (a h : Bool) (id p m q n : ℕ) (x y : Store) (t u : ReceiveChannelReliable)
       → pick a (message id x p m) (pick h (message id y q n) none-waiting) ≡ none-waiting → pick a t (pick h u s) ≡ s

@@ -11,10 +11,10 @@ mul-size : tie.Need-mul-size
 mul-size c = search needs
 
 mul-start : tie.Need-mul-start
-mul-start c = let a = c .before .before .before .args in omega (arith, lane-end (a .self .settings) (c .before .before .before .pre .0 .settings) (a .l) (c .before .before .before .pre .1 .low))
+mul-start c = let start = c .before .before .before in omega (arith, lane-end (start .args .self .settings) (start .pre .0 .settings) (start .args .l) (start .pre .1 .low))
 
 add-end : tie.Need-add-end
-add-end c = let a = c .before .before .before .args in omega (arith, lane-end (a .self .settings) (c .before .before .before .pre .0 .settings) (a .l) (c .before .before .before .pre .1 .low))
+add-end c = let start = c .before .before .before in omega (arith, lane-end (start .args .self .settings) (start .pre .0 .settings) (start .args .l) (start .pre .1 .low))
 
 sub-process-slice : tie.Need-sub-process-slice
 sub-process-slice c = search needs
@@ -23,7 +23,7 @@ part-process-slice-start : tie.Need-part-process-slice-start
 part-process-slice-start c = search needs
 
 part-process-slice-end : tie.Need-part-process-slice-end
-part-process-slice-end c = let a = c .before .before .before .args in omega (arith, lane-within (a .self .settings) (a .l) (c .before .before .before .pre .1 .low), c .before .before .before .pre .2)
+part-process-slice-end c = let start = c .before .before .before in omega (arith, lane-within (start .args .self .settings) (start .args .l) (start .pre .1 .low), start .pre .2)
 
 process-slice-requires : tie.Need-process-slice-requires
 process-slice-requires c κs = search needs
@@ -39,8 +39,13 @@ blank-requires c κs = search needs
 
 with-lane-requires : tie.Need-with-lane-requires
 with-lane-requires c κs =
-    let p = c .before .before .before .before .before .before .before .before .before .before .before .before .pre in
-    (p .0, (omega (arith, p .1 .low, p .0 .settings .lanes-most)), whole-fits _ (p .0) _ _ _ (p .1) _ _ _ (p .2) _ (part-size _ _) _ _ (c .before .before .before .before .before .before .before .process-slice .ensures) _ (c .before .before .answer2 .given .1))
+    let told = c .before .before in
+    let call = told .before .before .before .before .before in
+    let p = call .before .before .before .before .before .pre in (
+      p .0,
+      (omega (arith, p .1 .low, p .0 .settings .lanes-most)),
+      whole-fits _ (p .0) _ _ _ (p .1) _ _ _ (p .2) _ (part-size _ _) _ _ (call .process-slice .ensures) _ (told .answer2 .given .1),
+    )
 
 enum-told : tie.Need-enum-told
 enum-told c = search needs
@@ -53,26 +58,43 @@ mul-charge c = search needs
 
 with-lane-requires-2 : tie.Need-with-lane-requires-2
 with-lane-requires-2 c κs =
-    let p = c .before .before .before .before .before .before .before .before .before .before .before .pre in
-    (p .0, (omega (arith, p .1 .low, p .0 .settings .lanes-most)), rw (c .num-slices .ensures) (more-fits _ (p .0) _ _ _ (p .1) _ _ _ (p .2) _ (part-size _ _) _ _ (c .before .before .before .before .before .before .process-slice .ensures) (c .before .enum-told .given .1)))
+    let told = c .before in
+    let call = told .before .before .before .before .before in
+    let p = call .before .before .before .before .before .pre in (
+      p .0,
+      (omega (arith, p .1 .low, p .0 .settings .lanes-most)),
+      rw (c .num-slices .ensures) (more-fits _ (p .0) _ _ _ (p .1) _ _ _ (p .2) _ (part-size _ _) _ _ (call .process-slice .ensures) (told .enum-told .given .1)),
+    )
 
 same-length : tie.Need-same-length
 same-length c = search needs
 
 returns : tie.Need-returns
-returns c = let p = c .before .before .before .before .before .before .before .before .before .before .before .pre in piece-refused _ (p .0) _ _ _ (p .1) _ _ _ (p .2) _ (part-size _ _) _ _ (c .before .before .before .before .before .before .process-slice .ensures) _ (c .before .answer .given .1)
+returns c =
+    let told = c .before in
+    let call = told .before .before .before .before .before in
+    let p = call .before .before .before .before .before .pre in
+    piece-refused _ (p .0) _ _ _ (p .1) _ _ _ (p .2) _ (part-size _ _) _ _ (call .process-slice .ensures) _ (told .answer .given .1)
 
 same-length-2 : tie.Need-same-length-2
 same-length-2 c = search needs
 
 returns-2 : tie.Need-returns-2
-returns-2 c = let p = c .before .before .before .before .before .before .before .before .before .before .before .before .before .pre in piece-whole _ (p .0) _ _ _ (p .1) _ _ _ (p .2) _ (part-size _ _) _ _ (c .before .before .before .before .before .before .before .before .process-slice .ensures) _ (c .before .before .before .answer2 .given .1) _ _ (c .before .blank .ensures .0) (c .with-lane .ensures)
+returns-2 c =
+    let told = c .before .before .before in
+    let call = told .before .before .before .before .before in
+    let p = call .before .before .before .before .before .pre in
+    piece-whole _ (p .0) _ _ _ (p .1) _ _ _ (p .2) _ (part-size _ _) _ _ (call .process-slice .ensures) _ (told .answer2 .given .1) _ _ (c .before .blank .ensures .0) (c .with-lane .ensures)
 
 same-length-3 : tie.Need-same-length-3
 same-length-3 c = search needs
 
 returns-3 : tie.Need-returns-3
-returns-3 c = let p = c .before .before .before .before .before .before .before .before .before .before .before .before .pre in piece-more _ (p .0) _ _ _ (p .1) _ _ _ (p .2) _ (part-size _ _) _ _ (c .before .before .before .before .before .before .before .process-slice .ensures) (c .before .before .enum-told .given .1) _ _ (c .before .num-slices .ensures) (c .with-lane2 .ensures)
+returns-3 c =
+    let told = c .before .before in
+    let call = told .before .before .before .before .before in
+    let p = call .before .before .before .before .before .pre in
+    piece-more _ (p .0) _ _ _ (p .1) _ _ _ (p .2) _ (part-size _ _) _ _ (call .process-slice .ensures) (told .enum-told .given .1) _ _ (c .before .num-slices .ensures) (c .with-lane2 .ensures)
 
 pub collect-spec : {M : Type 1} → statement M
 collect-spec =

@@ -1,20 +1,25 @@
 -- `ReceiveChannelReliable::entry` meets its contract: each answer by the tests that led to it. Assumes nothing.
-use mathlib.Core.Path.{sym, _∙_}
+use mathlib.Core.Path.{_≡_, sym, _∙_}
 use mathlib.Core.Bool.{true, false}
+use Rattle.channel.specs.Settings.{storesHold}
 use Rattle.receive_reliable.proofs.Answers.{bad-store, bad-number, old-id, new-id}
 use Rattle.receive_reliable.proofs.Spots.{held-ignored, nothing-held}
 use borrow.Author.Needs.{needs}
 use Rattle.receive_reliable.proofs.ReceiveChannelReliable.entry.Statement.{statement}
 use Rattle.receive_reliable.proofs.ReceiveChannelReliable.entry.Tie as tie
 
+-- the stores hold
+fine : (c : tie.Then1) → (let a = c .before .before .before .args in storesHold (a .self .settings) (a .small) (a .lane) ≡ true)
+fine c = sym (c .before .stores-hold .ensures) ∙ c .if1 .taken
+
 stores-hold-requires : tie.Need-stores-hold-requires
 stores-hold-requires c κs = search needs
 
 returns : tie.Need-returns
-returns c = bad-number _ _ _ _ (sym (c .before .before .stores-hold .ensures) ∙ c .before .if1 .taken) (c .if2 .taken)
+returns c = bad-number _ _ _ _ (fine (c .before)) (c .if2 .taken)
 
 returns-2 : tie.Need-returns-2
-returns-2 c = old-id _ _ _ _ (sym (c .before .before .before .before .stores-hold .ensures) ∙ c .before .before .before .if1 .taken) (c .before .before .if2 .left) (c .if3 .taken)
+returns-2 c = old-id _ _ _ _ (fine (c .before .before .before)) (c .before .before .if2 .left) (c .if3 .taken)
 
 held-requires : tie.Need-held-requires
 held-requires c κs = search needs
@@ -26,10 +31,14 @@ enum-told-2 : tie.Need-enum-told-2
 enum-told-2 c = search needs
 
 returns-3 : tie.Need-returns-3
-returns-3 c = new-id _ _ _ _ (sym (c .before .before .before .before .before .before .before .stores-hold .ensures) ∙ c .before .before .before .before .before .before .if1 .taken) (c .before .before .before .before .before .if2 .left) (c .before .before .before .if3 .left) true (held-ignored _ _ _ _ (sym (c .before .before .held .ensures) ∙ c .enum-told2 .given .1))
+returns-3 c =
+    let fresh = c .before .before .before in
+    new-id _ _ _ _ (fine (fresh .before .before .before)) (fresh .before .before .if2 .left) (fresh .if3 .left) true (held-ignored _ _ _ _ (sym (c .before .before .held .ensures) ∙ c .enum-told2 .given .1))
 
 returns-4 : tie.Need-returns-4
-returns-4 c = new-id _ _ _ _ (sym (c .before .before .before .before .before .before .before .stores-hold .ensures) ∙ c .before .before .before .before .before .before .if1 .taken) (c .before .before .before .before .before .if2 .left) (c .before .before .before .if3 .left) false (nothing-held _ _ (sym (c .before .before .held .ensures) ∙ c .enum-told .given .1))
+returns-4 c =
+    let fresh = c .before .before .before in
+    new-id _ _ _ _ (fine (fresh .before .before .before)) (fresh .before .before .if2 .left) (fresh .if3 .left) false (nothing-held _ _ (sym (c .before .before .held .ensures) ∙ c .enum-told .given .1))
 
 returns-5 : tie.Need-returns-5
 returns-5 c = bad-store _ _ _ _ (sym (c .before .stores-hold .ensures) ∙ c .if1 .left)

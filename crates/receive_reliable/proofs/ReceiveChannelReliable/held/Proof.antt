@@ -17,13 +17,21 @@ element-copy-out-whole : tie.Need-element-copy-out-whole
 element-copy-out-whole c = search needs
 
 returns-2 : tie.Need-returns-2
-returns-2 c = in-lane _ _ _ (c .before .before .before .before .before .before .before .before .before .before .find .ensures) (c .before .before .before .before .before .before .before .before .before .if1 .left) _ (c .before .before .before .find2 .ensures) (c .before .before .if2 .taken) (c .if3 .taken)
+returns-2 c =
+    let found = c .before .before in
+    let missed = found .before .before .before .before .before .before .before in
+    in-lane _ _ _ (missed .before .find .ensures) (missed .if1 .left) _ (found .before .find2 .ensures) (found .if2 .taken) (c .if3 .taken)
 
 returns-3 : tie.Need-returns-3
-returns-3 c = in-part _ _ _ (c .before .before .before .before .before .before .before .before .before .before .find .ensures) (c .before .before .before .before .before .before .before .before .before .if1 .left) _ (c .before .before .before .find2 .ensures) (c .before .before .if2 .taken) (c .if3 .left)
+returns-3 c =
+    let found = c .before .before in
+    let missed = found .before .before .before .before .before .before .before in
+    in-part _ _ _ (missed .before .find .ensures) (missed .if1 .left) _ (found .before .find2 .ensures) (found .if2 .taken) (c .if3 .left)
 
 returns-4 : tie.Need-returns-4
-returns-4 c = in-none _ _ _ (c .before .before .before .before .before .before .before .before .find .ensures) (c .before .before .before .before .before .before .before .if1 .left) _ (c .before .find2 .ensures) (c .if2 .left)
+returns-4 c =
+    let missed = c .before .before .before .before .before .before .before in
+    in-none _ _ _ (missed .before .find .ensures) (missed .if1 .left) _ (c .before .find2 .ensures) (c .if2 .left)
 
 pub held-spec : {M : Type 1} → statement M
 held-spec =

@@ -1,6 +1,6 @@
 -- `ReceiveChannelReliable::message` meets its contract: what a look shows lies within its store. Assumes nothing.
-use mathlib.Core.Path.{_≡_, sym, ap, _∙_}
 use Prim.Native.Nat.{_+_, _≤_}
+use mathlib.Core.Path.{_≡_, sym, ap, _∙_}
 use native.Mathlib.Omega.{arith}
 use lib.ListN.{length}
 use Rattle.receive_reliable.specs.Receive.{message, lookOf, lookAt}

@@ -22,10 +22,14 @@ empty-requires-2 : tie.Need-empty-requires-2
 empty-requires-2 c κs = search needs
 
 returns : tie.Need-returns
-returns c = made-ready _ _ (sym (c .before .before .before .judge .ensures) ∙ ap setupNumber (c .before .enum-told .given .1)) (c .empty .ensures)
+returns c =
+    let told = c .before in
+    made-ready _ _ (sym (told .before .before .judge .ensures) ∙ ap setupNumber (told .enum-told .given .1)) (c .empty .ensures)
 
 returns-2 : tie.Need-returns-2
-returns-2 c = made-refused _ _ _ (sym (c .before .before .before .before .judge .ensures) ∙ ap setupNumber (c .before .before .answer .given .1)) (c .empty2 .ensures)
+returns-2 c =
+    let told = c .before .before in
+    made-refused _ _ _ (sym (told .before .before .judge .ensures) ∙ ap setupNumber (told .answer .given .1)) (c .empty2 .ensures)
 
 pub new-spec : {M : Type 1} → statement M
 new-spec =

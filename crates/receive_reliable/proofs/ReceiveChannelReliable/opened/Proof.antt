@@ -14,10 +14,10 @@ num-slices-requires : tie.Need-num-slices-requires
 num-slices-requires c κs = search needs
 
 returns : tie.Need-returns
-returns c = same-count _ (c .before .before .before .pre .0) _ (c .before .before .before .pre .1) _ _ _ (c .before .num-slices .ensures) (c .if1 .taken)
+returns c = let p = c .before .before .before .pre in same-count _ (p .0) _ (p .1) _ _ _ (c .before .num-slices .ensures) (c .if1 .taken)
 
 returns-2 : tie.Need-returns-2
-returns-2 c = other-count _ (c .before .before .before .pre .0) _ (c .before .before .before .pre .1) _ _ _ (c .before .num-slices .ensures) (c .if1 .left)
+returns-2 c = let p = c .before .before .before .pre in other-count _ (p .0) _ (p .1) _ _ _ (c .before .num-slices .ensures) (c .if1 .left)
 
 pub opened-spec : {M : Type 1} → statement M
 opened-spec =

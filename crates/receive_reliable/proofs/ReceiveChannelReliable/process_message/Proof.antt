@@ -2,7 +2,7 @@
 use mathlib.Core.Path.{_≡_, sym, ap, _∙_}
 use native.Mathlib.Omega.{arith}
 use lib.ListN.{length}
-use Rattle.receive_reliable.specs.Receive.{messageSpot, cell}
+use Rattle.receive_reliable.specs.Receive.{arrivalOf, messageSpot, cell, nowhere}
 use Rattle.receive_reliable.specs.Steps.{messagePlaceOf}
 use Rattle.receive_reliable.proofs.Spots.{spot-cell}
 use Rattle.receive_reliable.proofs.Gives.{message-left, message-taken}
@@ -10,7 +10,11 @@ use borrow.Author.Needs.{needs}
 use Rattle.receive_reliable.proofs.ReceiveChannelReliable.process_message.Statement.{statement}
 use Rattle.receive_reliable.proofs.ReceiveChannelReliable.process_message.Tie as tie
 
--- the cell that the message goes to
+-- the cell that the message goes to, or what it is told instead
+nowhere-to : (c : tie.After-place) → (let a = c .before .before .before .before .before .before .args in
+    messageSpot (a .self) (a .message-id .0) (length (a .message .now)) (length (a .small .now)) (length (a .lanes .now)) ≡ nowhere (arrivalOf (c .place .given .0 .0)))
+nowhere-to c = sym (c .before .before .message-place .ensures) ∙ ap messagePlaceOf (c .place .given .1)
+
 in-cell : (c : tie.After-place2) → (let a = c .before .before .before .before .before .before .args in
     messageSpot (a .self) (a .message-id .0) (length (a .message .now)) (length (a .small .now)) (length (a .lanes .now)) ≡ cell (c .place2 .given .0 .0))
 in-cell c = sym (c .before .before .message-place .ensures) ∙ ap messagePlaceOf (c .place2 .given .1)
@@ -32,18 +36,21 @@ write-bytes-requires c κs = let p = spot-cell _ (c .before .before .before .bef
 
 with-message-requires : tie.Need-with-message-requires
 with-message-requires c κs =
-    let v = c .before .before .before .before .before .before .before .before .before .before .before .pre in
-    let p = spot-cell _ v _ _ _ _ _ (in-cell (c .before .before .before .before .before)) .1 in
+    let placed = c .before .before .before .before .before in
+    let v = placed .before .before .before .before .before .before .pre in
+    let p = spot-cell _ v _ _ _ _ _ (in-cell placed) .1 in
     (v, (omega (arith, p .low, v .settings .slots-most)), p .memory)
 
 returns : tie.Need-returns
-returns c = message-left _ (c .before .before .before .before .before .before .before .pre) _ _ _ _ _ (sym (c .before .before .before .message-place .ensures) ∙ ap messagePlaceOf (c .before .place .given .1))
+returns c = message-left _ (c .before .before .before .before .before .before .before .pre) _ _ _ _ _ (nowhere-to (c .before))
 
 same-length : tie.Need-same-length
 same-length c = search needs
 
 returns-2 : tie.Need-returns-2
-returns-2 c = message-taken _ (c .before .before .before .before .before .before .before .before .before .before .before .before .pre) _ _ _ _ _ _ _ (in-cell (c .before .before .before .before .before .before)) (c .before .before .before .write-bytes .ensures .1) (c .with-message .ensures)
+returns-2 c =
+    let placed = c .before .before .before .before .before .before in
+    message-taken _ (placed .before .before .before .before .before .before .pre) _ _ _ _ _ _ _ (in-cell placed) (c .before .before .before .write-bytes .ensures .1) (c .with-message .ensures)
 
 pub process-message-spec : {M : Type 1} → statement M
 process-message-spec =

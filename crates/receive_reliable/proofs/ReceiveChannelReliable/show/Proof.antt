@@ -13,11 +13,14 @@ use Rattle.receive_reliable.proofs.ReceiveChannelReliable.show.Tie as t
 -- the cell and the lane are within their tables
 cell-low : (c : tie.After-enum-told) → c .before .before .args .i < SLOTS
 cell-low c =
-    let h = small-held _ _ (c .before .before .pre .0) _ (c .before .before .pre .1 ∙ ap (λ x. At x (c .before .before .args .i)) (c .enum-told .given .1)) in
-    omega (arith, h .0, c .before .before .pre .0 .settings .slots-most)
+    let start = c .before .before in
+    let h = small-held _ _ (start .pre .0) _ (start .pre .1 ∙ ap (λ x. At x (start .args .i)) (c .enum-told .given .1)) in
+    omega (arith, h .0, start .pre .0 .settings .slots-most)
 
-lane-in : (c : tie.After-enum-told2) → c .before .before .args .i < c .before .before .args .t1 .settings .lanes
-lane-in c = lane-held _ _ (c .before .before .pre .0) _ (c .before .before .pre .1 ∙ ap (λ x. At x (c .before .before .args .i)) (c .enum-told2 .given .1)) .0
+lane-in : (c : tie.After-enum-told2) → (let a = c .before .before .args in a .i < a .t1 .settings .lanes)
+lane-in c =
+    let start = c .before .before in
+    lane-held _ _ (start .pre .0) _ (start .pre .1 ∙ ap (λ x. At x (start .args .i)) (c .enum-told2 .given .1)) .0
 
 lane-low : (c : tie.After-enum-told2) → c .before .before .args .i < LANES
 lane-low c = omega (arith, lane-in c, c .before .before .pre .0 .settings .lanes-most)
@@ -29,7 +32,7 @@ mul-len : tie.Need-mul-len
 mul-len c = let h = cell-low c in omega arith
 
 element-copy-out-len : tie.Need-element-copy-out-len
-element-copy-out-len c = let h = cell-low c in omega arith
+element-copy-out-len c = cell-low c
 
 mul-t10 : tie.Need-mul-t10
 mul-t10 c = let h = cell-low (c .before) in omega arith
@@ -41,13 +44,13 @@ mul-len-2 : tie.Need-mul-len-2
 mul-len-2 c = let h = lane-low c in omega arith
 
 element-copy-out-len-2 : tie.Need-element-copy-out-len-2
-element-copy-out-len-2 c = let h = lane-low c in omega arith
+element-copy-out-len-2 c = lane-low c
 
 mul-size : tie.Need-mul-size
 mul-size c = search needs
 
 mul-t19 : tie.Need-mul-t19
-mul-t19 c = omega (arith, lane-end (c .before .before .before .args .t1 .settings) (c .before .before .before .pre .0 .settings) (c .before .before .before .args .i) (lane-in (c .before)))
+mul-t19 c = let start = c .before .before .before in omega (arith, lane-end (start .args .t1 .settings) (start .pre .0 .settings) (start .args .i) (lane-in (c .before)))
 
 returns : tie.Need-returns
 returns c = rw (c .before .enum-told .given .1)

@@ -1,4 +1,4 @@
--- `ReceiveChannelReliable::with_lane` meets its contract. Assumes nothing.
+-- `ReceiveChannelReliable::with_lane` meets its contract: what is taken off is part of the usage. Assumes nothing.
 use mathlib.Core.Path.{refl}
 use native.Mathlib.Omega.{arith}
 use Rattle.receive_reliable.specs.Steps.{laneSet}

@@ -1,4 +1,4 @@
--- `ReceiveChannelReliable::without_cell` meets its contract. Assumes nothing.
+-- `ReceiveChannelReliable::without_cell` meets its contract: what is taken off is part of the usage. Assumes nothing.
 use mathlib.Core.Path.{refl}
 use native.Mathlib.Omega.{arith}
 use Rattle.receive_reliable.specs.Receive.{withoutCell}

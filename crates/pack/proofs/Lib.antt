@@ -1,0 +1,5 @@
+pub mod Tables
+pub mod Lengths
+pub mod Turns
+pub mod Wrote
+pub mod Theorems

@@ -1,0 +1,5 @@
+pub mod Pack
+pub mod Encode
+pub mod Rows
+pub mod Steps
+pub mod Laws
