@@ -27,7 +27,7 @@ use Rattle.receive_reliable.specs.declared.Look.{Look}
 use Rattle.receive_reliable.specs.declared.Look.the-variants as look
 use Rattle.receive_reliable.proofs.Look as Look′
 use Rattle.receive_reliable.specs.declared.Arrival.the-variants as arrival
-use Rattle.receive_reliable.proofs.Lists.{getD-any, part-size}
+use Rattle.words.proofs.Tables.{getD-any, part-size}
 
 -- ---- whether a search found something
 

@@ -24,7 +24,7 @@ use Rattle.slice_constructor.specs.declared.Collected.{Collected}
 use Rattle.slice_constructor.specs.declared.Collect.the-variants as collect
 use Rattle.slice_constructor.specs.Collect as c
 use Rattle.slice_constructor.proofs.Valid as cv
-use Rattle.slice_constructor.proofs.Lists.{pick-cases, none-held}
+use Rattle.words.proofs.Tables.{pick-cases, none-held}
 use Rattle.receive_reliable.specs.Receive.{newOf, MadeGives, taken, refused, arrivalOf, cell, nowhere, messageSpot, withMessage, MessageGives, SliceSpot, opened, fresh, nothing, constructorAt, placed, isWhole, sliceSpot, sliceAnswer, sliceState, sliceBytes, withLane, SliceGives, lookOf, withoutCell, withoutLane, TakeGives, Valid}
 use Rattle.receive_reliable.specs.Steps.{heldIn, shownAt, laneSpot, laneSet, Fits, pieceRefusal, LaneGives}
 use Rattle.receive_reliable.specs.declared.ReceiveChannelReliable.{ReceiveChannelReliable}
@@ -35,7 +35,7 @@ use Rattle.receive_reliable.specs.declared.Store.the-variants.{Small, La
 use Rattle.receive_reliable.specs.declared.Look.{Look}
 use Rattle.receive_reliable.specs.declared.Look.the-variants as look
 use Rattle.receive_reliable.specs.declared.Held.the-variants as held
-use Rattle.receive_reliable.proofs.Lists.{clash, part-whole, part-splice}
+use Rattle.words.proofs.Tables.{clash, part-whole, part-splice}
 use Rattle.receive_reliable.proofs.Valid.{new-valid, message-valid, charge-most, lane-valid, without-cell-valid, without-lane-valid}
 use Rattle.receive_reliable.proofs.Answers.{constructor-here}
 use Rattle.receive_reliable.proofs.Spots.{small-held, lane-held, waiting-nothing, waiting-shown, take-nothing, take-small, take-lanes, spot-cell, open-fits, fresh-fits, spot-opened, spot-fresh, spot-nothing}

@@ -24,7 +24,7 @@ use Rattle.receive_reliable.specs.declared.Store.the-variants.{Small, La
 use Rattle.receive_reliable.specs.declared.Held.{Held}
 use Rattle.receive_reliable.specs.declared.Held.the-variants as held
 use Rattle.receive_reliable.proofs.Valid.{CellSpot, lane-used}
-use Rattle.receive_reliable.proofs.Lists.{clash}
+use Rattle.words.proofs.Tables.{clash}
 
 -- ---- a message that is held
 

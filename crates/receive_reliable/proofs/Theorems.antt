@@ -13,7 +13,7 @@ use Rattle.channel.specs.Settings.{storesHold}
 use Rattle.channel.specs.declared.Settings.{Settings}
 use Rattle.channel.specs.declared.Setup.{Setup}
 use Rattle.channel.proofs.Unique.{one-setup}
-use Rattle.slice_constructor.proofs.Lists.{by-test}
+use Rattle.words.proofs.Tables.{by-test}
 use Rattle.receive_reliable.specs.Receive.{inCell, isHeld, Outcome, taken, ignored, refused, arrivalOf, MessageSpot, cell, nowhere, messageSpot, messageAnswer, messageState, messageBytes, SliceSpot, opened, fresh, nothing, sliceSpot, sliceAnswer, sliceState, sliceBytes, Waiting, message, none-waiting, refusing, waiting, lookOf, lookAt, partAt, afterTake, MadeGives, MessageGives, SliceGives, TakeGives, Valid}
 use Rattle.receive_reliable.specs.Usage.{cellUse, laneUse, sumBelow}
 use Rattle.receive_reliable.specs.declared.ReceiveChannelReliable.{ReceiveChannelReliable}
@@ -25,7 +25,7 @@ use Rattle.receive_reliable.specs.declared.Store.{Store}
 use Rattle.receive_reliable.specs.declared.Look.{Look}
 use Rattle.receive_reliable.specs.declared.Look.the-variants as look
 use Rattle.receive_reliable.specs.declared.Received.{Received}
-use Rattle.receive_reliable.proofs.Lists.{clash}
+use Rattle.words.proofs.Tables.{clash}
 
 -- ---- the usage
 

@@ -13,12 +13,12 @@ use Rattle.channel.specs.Settings.{Good}
 use Rattle.channel.specs.declared.Settings.{Settings}
 use Rattle.slice_constructor.specs.declared.SliceConstructor.{SliceConstructor}
 use Rattle.slice_constructor.specs.Collect as c
-use Rattle.slice_constructor.proofs.Lists.{pick-cases, holds-split}
+use Rattle.words.proofs.Tables.{pick-cases, holds-split}
 use Rattle.slice_constructor.proofs.Valid as cv
 use Rattle.receive_reliable.specs.Receive.{newOf, constructorAt, isWhole, laneCharge, kept, withMessage, withLane, withoutCell, withoutLane, CellGood, LaneGood, Valid}
 use Rattle.receive_reliable.specs.Steps.{Fits}
 use Rattle.receive_reliable.specs.declared.ReceiveChannelReliable.{ReceiveChannelReliable}
-use Rattle.receive_reliable.proofs.Lists.{clash, by-place, total-set, at-most-total}
+use Rattle.words.proofs.Tables.{clash, by-place, total-set, at-most-total}
 
 -- true is not false
 never : {P : Type 0} (b : Bool) → b ≡ true → b ≡ false → P

@@ -14,9 +14,10 @@ use Rattle.slice_constructor.specs.declared.SliceConstructor.{SliceConst
 use Rattle.slice_constructor.specs.declared.Begun.{Begun}
 use Rattle.slice_constructor.specs.declared.Collected.{Collected}
 use Rattle.slice_constructor.specs.Collect.{Valid, blankOf, beginNumber, beginRefusal, BeginGives, collectRefusal, taken, laneTaken, wholeLen, missing, whole, collectOf, answerOf, CollectGives}
-use Rattle.slice_constructor.specs.Whole.{piecesOf, pieceOf, Holds}
+use Rattle.words.specs.Pieces.{piecesOf, pieceOf}
+use Rattle.slice_constructor.specs.Whole.{Holds}
 use Rattle.slice_constructor.specs.Arrivals.{called, afterAll, arrivals}
-use Rattle.slice_constructor.proofs.Lists.{none-held}
+use Rattle.words.proofs.Tables.{none-held}
 use Rattle.slice_constructor.proofs.Valid.{Good, not-refused, in-table, blank-valid, taken-valid, taken-num, taken-received}
 use Rattle.slice_constructor.proofs.Whole.{says-whole, says-missing}
 use Rattle.slice_constructor.proofs.Order.{good-piece, holds-new, holds-taken, whole-message}

@@ -1,4 +1,3 @@
-pub mod Lists
 pub mod Valid
 pub mod Whole
 pub mod Order

@@ -14,8 +14,9 @@ use Rattle.words.specs.Lists.{splice}
 use Rattle.words.proofs.Splice.{length-splice}
 use Rattle.slice_constructor.specs.declared.SliceConstructor.{SliceConstructor}
 use Rattle.slice_constructor.specs.Collect.{Valid, blankOf, collectRefusal, lastLen, more, taken, laneTaken, wholeLen, whole, answerOf}
-use Rattle.slice_constructor.specs.Whole.{piecesOf, pieceOf, Holds}
-use Rattle.slice_constructor.proofs.Lists.{pick-cases, by-test, none-held, same-part, part-before, part-after, part-here}
+use Rattle.words.specs.Pieces.{piecesOf, pieceOf}
+use Rattle.slice_constructor.specs.Whole.{Holds}
+use Rattle.words.proofs.Tables.{pick-cases, by-test, none-held, same-part, part-before, part-after, part-here}
 use Rattle.slice_constructor.proofs.Valid.{Good, not-refused, piece-room}
 use Rattle.slice_constructor.proofs.Whole.{whole-each}
 

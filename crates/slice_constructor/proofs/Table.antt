@@ -3,7 +3,7 @@ use Prim.Native.Nat.{ℕ, zero, suc}
 use mathlib.Core.Path.{_≡_, refl}
 use mathlib.Core.List.{List, [], _∷_, _++_, map}
 use lib.ListN.{length, replicate}
-use Rattle.slice_constructor.specs.Whole.{piecesOf, pieceOf}
+use Rattle.words.specs.Pieces.{piecesOf, pieceOf}
 
 -- 0 to n - 1
 abbrev pub below : ℕ → List ℕ

@@ -13,7 +13,7 @@ use Rattle.words.specs.Lists.{holds, All}
 use Rattle.words.proofs.Lists.{holds-more, none-refused}
 use Rattle.slice_constructor.specs.declared.SliceConstructor.{SliceConstructor}
 use Rattle.slice_constructor.specs.Collect.{Valid, blankOf, sized, collectRefusal, more, taken}
-use Rattle.slice_constructor.proofs.Lists.{pick-cases, holds-split}
+use Rattle.words.proofs.Tables.{pick-cases, holds-split}
 
 -- ---- a piece that is not refused
 

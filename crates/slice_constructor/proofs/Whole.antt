@@ -10,7 +10,7 @@ use lib.Seq.{getD-take, length-take-le}
 use Rattle.words.specs.Lists.{holds}
 use Rattle.slice_constructor.specs.declared.SliceConstructor.{SliceConstructor}
 use Rattle.slice_constructor.specs.Collect.{Valid, wholeLen, missing, whole, answerOf}
-use Rattle.slice_constructor.proofs.Lists.{holds-split, each-held, all-held}
+use Rattle.words.proofs.Tables.{holds-split, each-held, all-held}
 
 module _ (c : SliceConstructor) (v : Valid c) where
   front-long : length (take (c .«num_slices») (c .received)) ≡ c .«num_slices»

@@ -7,7 +7,7 @@ use Rattle.words.specs.Choice.{pick}
 use Rattle.words.specs.Lists.{reached}
 use Rattle.slice_constructor.specs.declared.SliceConstructor.{SliceConstructor}
 use Rattle.slice_constructor.specs.Collect.{blankOf, collectRefusal, taken, laneTaken}
-use Rattle.slice_constructor.specs.Whole.{piecesOf, pieceOf}
+use Rattle.words.specs.Pieces.{piecesOf, pieceOf}
 
 -- the state and the lane that a call with piece i of a message leaves, as `CollectGives` has them
 unfoldable pub called : List ℕ → SliceConstructor × List ℕ → ℕ → SliceConstructor × List ℕ

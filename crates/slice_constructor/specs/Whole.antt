@@ -1,19 +1,12 @@
 -- What a lane holds while the pieces of one message arrive, and when it is whole. Assumes nothing.
-use Prim.Native.Nat.{ℕ, _+_, _-_, _*_, _/_, _≤_, _<_}
+use Prim.Native.Nat.{ℕ, _-_, _*_, _≤_, _<_}
 use mathlib.Core.Path.{_≡_}
 use mathlib.Core.Bool.{true, false}
 use mathlib.Core.List.{List}
 use lib.ListN.{length, getD, take, drop}
 use Rattle.words.specs.Sizes.{SLICE_SIZE}
+use Rattle.words.specs.Pieces.{pieceOf}
 use Rattle.slice_constructor.specs.declared.SliceConstructor.{SliceConstructor}
-
--- how many pieces a message of n bytes has: 1,201 bytes are two pieces, 2,401 are three
-abbrev pub piecesOf : ℕ → ℕ
-piecesOf n = (n + (SLICE_SIZE - 1)) / SLICE_SIZE
-
--- piece i of a message: 1,200 bytes, or what is left
-abbrev pub pieceOf : List ℕ → ℕ → List ℕ
-pieceOf msg i = take SLICE_SIZE (drop (i * SLICE_SIZE) msg)
 
 -- the lane holds every piece that is here, and the last piece's length is known once it is
 pub record Holds (c : SliceConstructor) (msg lane : List ℕ) : Type 0 where

@@ -2,4 +2,5 @@ pub mod Tests
 pub mod Splice
 pub mod Suffix
 pub mod Lists
+pub mod Tables
 pub mod Unique

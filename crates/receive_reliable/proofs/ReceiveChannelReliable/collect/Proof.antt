@@ -1,7 +1,7 @@
 -- `ReceiveChannelReliable::collect` meets its contract: the lane's part of the store comes back with the piece in it. Assumes nothing.
 use native.Mathlib.Omega.{arith}
 use Rattle.channel.proofs.Good.{lane-end, lane-within}
-use Rattle.receive_reliable.proofs.Lists.{part-size}
+use Rattle.words.proofs.Tables.{part-size}
 use Rattle.receive_reliable.proofs.Gives.{piece-refused, whole-fits, piece-whole, more-fits, piece-more}
 use borrow.Author.Needs.{needs}
 use Rattle.receive_reliable.proofs.ReceiveChannelReliable.collect.Statement.{statement}
