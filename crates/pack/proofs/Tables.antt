@@ -8,12 +8,22 @@ use native.Mathlib.Nat.{add-zero}
 use native.Mathlib.Numerals.{add-one}
 use lib.ListN.{length, getD, drop, length-map}
 use lib.Seq.{getD-take, getD-drop}
-use Rattle.words.specs.Lists.{splice, All}
+use Rattle.words.specs.Lists.{splice, total, All}
+use Rattle.words.proofs.Lists.{total-snoc}
 use Rattle.words.proofs.Splice.{take-splice}
 use Rattle.words.proofs.Suffix.{drop-at-splice}
-use Rattle.pack.specs.Pack.{Item, itemAt, itemsIn, isSmall, Pack}
+use Rattle.pack.specs.Pack.{Item, ITEM, itemAt, itemsIn, isSmall, Pack}
 use Rattle.pack.specs.Rows.{smalls, smallsIn, Row, PACK, rowAt, rowsIn, packOf, packsIn, packLen, packetsLen}
-use Rattle.pack.specs.Steps.{rowWords}
+use Rattle.pack.specs.Steps.{itemWords, rowWords}
+
+-- ---- words that are put into a table
+
+pub word-put : (t ws : List ℕ) (at : ℕ) → at + length ws ≤ length t → (i : ℕ) → getD (splice at ws t) (at + i) 0 ≡ getD (ws ++ drop (at + length ws) t) i 0
+word-put t ws at h i = sym (getD-drop at (splice at ws t) i 0) ∙ ap (λ (l : List ℕ). getD l i 0) (drop-at-splice at ws t h)
+
+pub word-before : (t ws : List ℕ) (at i : ℕ) → i < at → getD (splice at ws t) i 0 ≡ getD t i 0
+word-before t ws at i l =
+    sym (getD-take at (splice at ws t) i 0 l) ∙ ap (λ (s : List ℕ). getD s i 0) (take-splice at at ws t (omega arith)) ∙ getD-take at t i 0 l
 
 -- ---- items
 
@@ -30,6 +40,34 @@ items-then t i rest =
     let z : 0 + i ≡ i = omega arith in
     rw (add-one, items-more, z) (append-assoc (itemsIn t 0 i) (itemAt t i ∷ []) rest)
 
+pub length-items : (t : List ℕ) (a k : ℕ) → length (itemsIn t a k) ≡ k
+unfolding itemsIn
+length-items t a zero = refl
+length-items t a (suc k) = ap suc (length-items t (a + 1) k)
+
+item-same : (t u : List ℕ) (j : ℕ) → ((i : ℕ) → i < ITEM * (j + 1) → getD t i 0 ≡ getD u i 0) → itemAt t j ≡ itemAt u j
+item-same t u j h =
+    rw (h (ITEM * j) (omega arith), h (ITEM * j + 1) (omega arith), h (ITEM * j + 2) (omega arith), h (ITEM * j + 3) (omega arith), h (ITEM * j + 4) (omega arith))
+
+items-same : (t u : List ℕ) (j k : ℕ) → ((i : ℕ) → i < ITEM * (j + k) → getD t i 0 ≡ getD u i 0) → itemsIn t j k ≡ itemsIn u j k
+unfolding itemsIn
+items-same t u j zero h = refl
+items-same t u j (suc k) h =
+    rw (item-same t u j (λ i l. h i (omega arith)), items-same t u (j + 1) k (λ i l. h i (omega arith)))
+
+module _ (t : List ℕ) (k : ℕ) (x : Item) (h : ITEM * (k + 1) ≤ length t) where
+  abbrev item-word : (i : ℕ) → getD (splice (ITEM * k) (itemWords x) t) (ITEM * k + i) 0 ≡ getD (itemWords x ++ drop (ITEM * k + ITEM) t) i 0
+  item-word = word-put t (itemWords x) (ITEM * k) (omega arith)
+
+  item-put : itemAt (splice (ITEM * k) (itemWords x) t) k ≡ x
+  item-put = rw (rw add-zero at (item-word 0), item-word 1, item-word 2, item-word 3, item-word 4)
+
+  -- an item that is put to the end
+  pub items-put : itemsIn (splice (ITEM * k) (itemWords x) t) 0 (k + 1) ≡ itemsIn t 0 k ++ (x ∷ [])
+  items-put =
+      let z : 0 + k ≡ k = omega arith in
+      rw (add-one, items-more, z, item-put, items-same (splice (ITEM * k) (itemWords x) t) t 0 k (λ i l. word-before t (itemWords x) (ITEM * k) i (omega arith)))
+
 items-all : (P : Item → Type 0) (t : List ℕ) (a n i : ℕ) → i < n → All P (itemsIn t a n) → P (itemAt t (a + i))
 unfolding itemsIn All
 items-all P t a zero i h w = absurd (omega arith)
@@ -41,6 +79,16 @@ items-all P t a (suc n) (suc i) h w =
 -- what is known of every item is known of each
 pub item-all : (P : Item → Type 0) (t : List ℕ) (n i : ℕ) → i < n → All P (itemsIn t 0 n) → P (itemAt t i)
 item-all P t n i h w = let e : 0 + i ≡ i = omega arith in subst (λ (k : ℕ). P (itemAt t k)) e (items-all P t 0 n i h w)
+
+-- what items add up to, one by one
+pub total-none : (f : Item → ℕ) (t : List ℕ) → total f (itemsIn t 0 0) ≡ 0
+unfolding itemsIn total
+total-none f t = refl
+
+pub total-more : (f : Item → ℕ) (t : List ℕ) (i : ℕ) → total f (itemsIn t 0 (i + 1)) ≡ total f (itemsIn t 0 i) + f (itemAt t i)
+total-more f t i =
+    let z : 0 + i ≡ i = omega arith in
+    rw (add-one i, items-more, z) (total-snoc f (itemsIn t 0 i) (itemAt t i))
 
 -- ---- small messages
 
@@ -97,28 +145,17 @@ length-rows p j zero = refl
 length-rows p j (suc k) = ap suc (length-rows p (j + 1) k)
 
 module _ (p : List ℕ) (k : ℕ) (r : Row) (h : PACK * (k + 1) ≤ length p) where
-  put : List ℕ
-  put = splice (PACK * k) (rowWords r) p
+  abbrev row-word : (i : ℕ) → getD (splice (PACK * k) (rowWords r) p) (PACK * k + i) 0 ≡ getD (rowWords r ++ drop (PACK * k + PACK) p) i 0
+  row-word = word-put p (rowWords r) (PACK * k) (omega arith)
 
-  word : (i : ℕ) → getD put (PACK * k + i) 0 ≡ getD (rowWords r ++ drop (PACK * k + 4) p) i 0
-  unfolding put
-  word i = sym (getD-drop (PACK * k) put i 0) ∙ ap (λ (l : List ℕ). getD l i 0) (drop-at-splice (PACK * k) (rowWords r) p (omega arith))
-
-  row-put : rowAt put k ≡ r
-  row-put = rw (rw add-zero at (word 0), word 1, word 2, word 3)
-
-  before : (i : ℕ) → i < PACK * (0 + k) → getD put i 0 ≡ getD p i 0
-  unfolding put
-  before i l =
-      let g : i < PACK * k = omega arith in
-      sym (getD-take (PACK * k) put i 0 g) ∙ ap (λ (s : List ℕ). getD s i 0) (take-splice (PACK * k) (PACK * k) (rowWords r) p (omega arith)) ∙ getD-take (PACK * k) p i 0 g
+  row-put : rowAt (splice (PACK * k) (rowWords r) p) k ≡ r
+  row-put = rw (rw add-zero at (row-word 0), row-word 1, row-word 2, row-word 3)
 
   -- a row that is put to the end
   pub rows-put : rowsIn (splice (PACK * k) (rowWords r) p) 0 (k + 1) ≡ rowsIn p 0 k ++ (r ∷ [])
-  unfolding put
   rows-put =
       let z : 0 + k ≡ k = omega arith in
-      rw (add-one, rows-more, z, row-put, rows-same put p 0 k before)
+      rw (add-one, rows-more, z, row-put, rows-same (splice (PACK * k) (rowWords r) p) p 0 k (λ i l. word-before p (rowWords r) (PACK * k) i (omega arith)))
 
   pub packs-put : (t : List ℕ) → packsIn t (splice (PACK * k) (rowWords r) p) (k + 1) ≡ packsIn t p k ++ (packOf t r ∷ [])
   packs-put t = ap (map (packOf t)) rows-put ∙ map-append (packOf t) (rowsIn p 0 k) (r ∷ [])

@@ -147,12 +147,12 @@ all-go ids l is =
 
 -- what packing tells is judged as the definitions judge a round; where nothing is refused, the packets may be written
 module _ (l : Lent) (seq : ℕ) (t : List ℕ) (n : ℕ) (p : List ℕ) (r : Packed) (w : Packs (l .ids) seq t n p r) (c : All (Chosen l) (itemsIn t 0 n)) (out entries : ℕ) where
-  len : r .bytes ≡ length (endToEnd (packetsBytes l seq (pack (l .ids) (itemsIn t 0 n))))
-  len = w .bytes ∙ sym (length-packets l seq (pack (l .ids) (itemsIn t 0 n)) (all-go (l .ids) l (itemsIn t 0 n) c))
+  pub bytes-told : r .bytes ≡ length (endToEnd (packetsBytes l seq (pack (l .ids) (itemsIn t 0 n))))
+  bytes-told = w .bytes ∙ sym (length-packets l seq (pack (l .ids) (itemsIn t 0 n)) (all-go (l .ids) l (itemsIn t 0 n) c))
 
   pub judged : roundNumber seq r out entries ≡ roundRefusal l seq (pack (l .ids) (itemsIn t 0 n)) out entries
   unfolding roundNumber roundRefusal
-  judged = rw (len, w .packets)
+  judged = rw (bytes-told, w .packets)
 
   pub ready : PACK * (n + 1) ≤ length p → roundNumber seq r out entries ≡ 0 → Ready l seq t p (r .packets) out entries
   unfolding roundNumber All
@@ -163,7 +163,7 @@ module _ (l : Lent) (seq : ℕ) (t : List ℕ) (n : ℕ) (p : List ℕ) (r : Pac
         sound = w .sound;
         go = rw (w .packs) (all-go (l .ids) l (itemsIn t 0 n) c);
         numbers = ltb-false LIMIT (seq + r .packets) (f .0);
-        room = rw (w .packs, ← len) (ltb-false out (r .bytes) (f .1 .0));
+        room = rw (w .packs, ← bytes-told) (ltb-false out (r .bytes) (f .1 .0));
         table = ltb-false entries (ENTRY * (r .packets)) (f .1 .1 .0);
       }
 

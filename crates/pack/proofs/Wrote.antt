@@ -5,7 +5,7 @@ use mathlib.Core.Bool.{Bool, true, false}
 use mathlib.Core.List.{List, [], _∷_, _++_, map, map-append, append-nil, append-assoc}
 use native.Mathlib.Omega.{arith}
 use native.Mathlib.Nat.{add-zero, sub-zero}
-use native.Mathlib.Numerals.{add-one, add-two, add-three}
+use native.Mathlib.Numerals.{add-one, add-two, add-three, add-four}
 use lib.Dec.{eqb}
 use lib.ListN.{length, set, take, drop, length-append, length-map}
 use Rattle.words.specs.Sizes.{LIMIT}
@@ -21,13 +21,18 @@ use Rattle.packet_slice.specs.Write.{sliceSaid, sliceBytes}
 use Rattle.packet_slice.specs.Steps.{Judged}
 use Rattle.packet_slice.proofs.Wrote.{length-slice}
 use Rattle.pack.specs.Rows.{Row, smalls, smallsIn, rowAt, rowsIn, packOf, packsIn, Sound, Sendable, PackGoes, sliceItem}
-use Rattle.pack.specs.Steps.{rowWords, saidSmall, itemsBytes, lent}
+use Rattle.pack.specs.Steps.{itemWords, rowWords, saidSmall, itemsBytes, lent}
 use Rattle.pack.proofs.Tables.{smalls-append}
 
 pub row-wrote : (j : ℕ) (r : Row) (s : List ℕ)
     → set (set (set (set s j (r .num)) (j + 1) (r .first)) (j + 2) (r .end)) (j + 3) (r .count) ≡ splice j (rowWords r) s
 unfolding splice
 row-wrote j r s = simp (add-one j, add-two j, add-three j)
+
+pub item-wrote : (j : ℕ) (x : Item) (s : List ℕ)
+    → set (set (set (set (set s j (x .num)) (j + 1) (x .id)) (j + 2) (x .index)) (j + 3) (x .place)) (j + 4) (x .len) ≡ splice j (itemWords x) s
+unfolding splice
+item-wrote j x s = simp (add-one j, add-two j, add-three j, add-four j)
 
 -- ---- messages
 

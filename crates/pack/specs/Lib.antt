@@ -3,3 +3,4 @@ pub mod Encode
 pub mod Rows
 pub mod Steps
 pub mod Laws
+pub mod Round

@@ -14,10 +14,15 @@ use Rattle.pack.specs.Encode.{Lent}
 use Rattle.pack.specs.Rows.{Row, rowsIn, packsIn, smalls, smallsIn, Sound, sliceItem, packetsLen}
 use Rattle.pack.specs.declared.Packing.{Packing}
 
--- ---- packing
+-- ---- the words of an item and of a row
+
+abbrev pub itemWords : Item → List ℕ
+itemWords i = i .num ∷ i .id ∷ i .index ∷ i .place ∷ i .len ∷ []
 
 abbrev pub rowWords : Row → List ℕ
 rowWords r = r .num ∷ r .first ∷ r .end ∷ r .count ∷ []
+
+-- ---- packing
 
 -- the group that is open where item i is met
 abbrev pub openRow : Packing → ℕ → Row

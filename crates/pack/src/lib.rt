@@ -10,24 +10,32 @@ ghost use mathlib.Core.Path.{_≡_};
 ghost use mathlib.Core.List.{[], _∷_};
 ghost use Prim.Native.Nat.{_+_, _*_, _-_, _≤_, _<_};
 ghost use lib.ListN.{length};
-ghost use Rattle.words.specs.Sizes.{LIMIT, SLICE_SIZE, MAX_MESSAGES};
-ghost use Rattle.words.specs.Lists.{splice, All};
+ghost use Rattle.words.specs.Sizes.{LIMIT, SLICE_SIZE, PIECES, MAX_MESSAGES};
+ghost use Rattle.words.specs.Lists.{splice, total, All};
+ghost use Rattle.words.specs.Pieces.{piecesOf, pieceLen};
 ghost use Rattle.packet_slice.specs.Slice.{sliceOf};
-ghost use Rattle.pack.specs.Pack.{ITEM, itemAt, itemsIn, packedLen};
-ghost use Rattle.pack.specs.Encode.{packBytes, outAfter, tableAfter};
-ghost use Rattle.pack.specs.Rows.{PACK, rowAt, smalls, packOf, packsIn, Sound, sliceItem, Packs, Sendable, PackGoes, Ready, roundNumber, verdictOf};
-ghost use Rattle.pack.specs.Steps.{rowWords, openRow, pieceRow, closed, pieced, MOST, PackedTo, lent, itemsBytes};
+ghost use Rattle.pack.specs.Pack.{ITEM, itemAt, itemsIn, packedLen, pack};
+ghost use Rattle.pack.specs.Encode.{packBytes, roundRefusal, outAfter, tableAfter};
+ghost use Rattle.pack.specs.Rows.{PACK, rowAt, smalls, packOf, packsIn, Sound, sliceItem, Packs, Sendable, PackGoes, Chosen, Ready, roundNumber, verdictOf};
+ghost use Rattle.pack.specs.Round.{ITEMS, Gives};
+ghost use Rattle.pack.specs.Steps.{itemWords, rowWords, openRow, pieceRow, closed, pieced, MOST, PackedTo, lent, itemsBytes};
 use packet_slice::Slice;
 use packet_small::Small;
+use words::LANES;
 use words::LIMIT;
 use words::MessageId;
+use words::PIECES;
 use words::Refusal;
 use words::SLICE_SIZE;
+use words::SLOTS;
 use words::Sequence;
 use words::SliceIndex;
 
 // Words of the items' table for each item.
 pub const ITEM: usize = 5;
+
+// Most items of a round: every small message and every piece that a channel end can hold.
+pub const ITEMS: usize = SLOTS + LANES * PIECES;
 
 // Words of the packets' table for each packet.
 pub const PACK: usize = 4;
@@ -50,6 +58,26 @@ pub enum Verdict {
     Refused(Refusal),
 }
 
+// A counted byte budget: what a round was allowed, and what it spent.
+pub struct Budget {
+    pub allowed: u64,
+    pub spent: u64,
+}
+
+// What a round wrote: how many packets, how many bytes, the sequence after the last, and its budget.
+pub struct Written {
+    pub packets: usize,
+    pub bytes: usize,
+    pub next_sequence: Sequence,
+    pub budget: Budget,
+}
+
+// What came of a round.
+pub enum Went {
+    Sent(Written),
+    Refused(Refusal),
+}
+
 // What packing carries from item to item: the packets put out so far, their bytes, and the open
 // group, which is the small messages from the first item on.
 struct Packing {
@@ -58,6 +86,27 @@ struct Packing {
     first: usize,
     small_messages: usize,
     small_messages_bytes: usize,
+}
+
+// Writes the k-th item of the items' table.
+pub fn put_item(
+    items: &mut [u64],
+    k: usize,
+    num: usize,
+    id: MessageId,
+    index: SliceIndex,
+    place: usize,
+    len: usize,
+)
+    requires { ⌜ ITEM * (k + 1) ≤ length (now items) ⌝ }
+    ensures { λ _. ⌜ now (items .exit) ≡ splice (ITEM * k) (itemWords (record { num = num; id = id .0; index = index .0; place = place; len = len })) (now (items .entry)) ⌝ }
+{
+    let j = ITEM * k;
+    items[j] = num as u64;
+    items[j + 1] = id.0;
+    items[j + 2] = index.0;
+    items[j + 3] = place as u64;
+    items[j + 4] = len as u64;
 }
 
 // Writes the k-th row of the packets' table.
@@ -70,6 +119,26 @@ fn write_row(packs: &mut [u64], k: usize, num: u64, first: usize, end: usize, co
     packs[j + 1] = first as u64;
     packs[j + 2] = end as u64;
     packs[j + 3] = count as u64;
+}
+
+// How many pieces a message has.
+pub fn num_slices(len: usize) -> usize
+    requires { ⌜ len ≤ PIECES * SLICE_SIZE ⌝ }
+    ensures { λ r. ⌜ r ≡ piecesOf len ⌝ }
+{
+    (len + (SLICE_SIZE - 1)) / SLICE_SIZE
+}
+
+// How long piece i of a message is.
+pub fn slice_len(len: usize, i: usize) -> usize
+    requires { ⌜ len ≤ PIECES * SLICE_SIZE ⌝ }
+    requires { ⌜ i * SLICE_SIZE ≤ len ⌝ }
+    ensures { λ r. ⌜ r ≡ pieceLen len i ⌝ }
+{
+    if i + 1 == num_slices(len) {
+        return len - i * SLICE_SIZE;
+    }
+    SLICE_SIZE
 }
 
 // A small message's size for packing, which is its length in a packet.
@@ -180,7 +249,7 @@ fn pack_item(
 
 // Packs the n items of a round into the packets' table, the first packet with this sequence. The
 // last group ends the round, if it holds a message.
-pub fn pack(items: &[u64], n: usize, ids: bool, packs: &mut [u64], sequence: Sequence) -> Packed
+fn pack(items: &[u64], n: usize, ids: bool, packs: &mut [u64], sequence: Sequence) -> Packed
     requires { ⌜ n ≤ MAX_MESSAGES ⌝ }
     requires { ⌜ ITEM * n ≤ length (now items) ⌝ }
     requires { ⌜ All (λ i. i .len ≤ SLICE_SIZE) (itemsIn (now items) 0 n) ⌝ }
@@ -214,7 +283,7 @@ pub fn pack(items: &[u64], n: usize, ids: bool, packs: &mut [u64], sequence: Seq
 }
 
 // Judges a packed round: the numbers that it would need, then the lent bytes and the lent table.
-pub fn judge(packed: Packed, sequence: Sequence, room: usize, entries: usize) -> Verdict
+fn judge(packed: Packed, sequence: Sequence, room: usize, entries: usize) -> Verdict
     requires { ⌜ packed .packets ≤ LIMIT ⌝ }
     ensures { λ r. ⌜ verdictOf r ≡ roundNumber (sequence .0) packed room entries ⌝ }
 {
@@ -314,7 +383,7 @@ fn write_packet(
 
 // Writes the k packets end to end at the front of the lent bytes, and start and length of each to the
 // lent table. All was judged before.
-pub fn encode(
+fn encode(
     out: &mut [u8],
     table: &mut [u64],
     items: &[u64],
@@ -340,5 +409,75 @@ pub fn encode(
         table[j + 1] = (end - at) as u64;
         at = end;
         i += 1;
+    }
+}
+
+// Adds up the payload bytes of the n items.
+fn payload_bytes(items: &[u64], n: usize) -> u64
+    requires { ⌜ n ≤ ITEMS ⌝ }
+    requires { ⌜ ITEM * n ≤ length (now items) ⌝ }
+    requires { ⌜ All (λ i. i .len ≤ SLICE_SIZE) (itemsIn (now items) 0 n) ⌝ }
+    ensures { λ r. ⌜ r ≡ total (λ i. i .len) (itemsIn (now (items .entry)) 0 n) ⌝ }
+{
+    let mut sum = 0;
+    let mut i = 0;
+    while i < n {
+        sum += items[ITEM * i + 4];
+        i += 1;
+    }
+    sum
+}
+
+// The second half of a round: packs the n items that were chosen, judges the packets, and only then
+// writes them.
+pub fn send(
+    out: &mut [u8],
+    table: &mut [u64],
+    items: &[u64],
+    n: usize,
+    channel_id: u8,
+    ids: bool,
+    sequence: Sequence,
+    allowed: u64,
+    small: &[u8],
+    lanes: &[u8],
+) -> Went
+    requires { ⌜ n ≤ ITEMS ⌝ }
+    requires { ⌜ ITEM * n ≤ length (now items) ⌝ }
+    requires { ⌜ All (Chosen (lent ids «channel_id» (now small) (now lanes))) (itemsIn (now items) 0 n) ⌝ }
+    requires { ⌜ sequence .0 < LIMIT ⌝ }
+    ensures { λ r. ⌜ Gives (lent ids «channel_id» (now (small .entry)) (now (lanes .entry))) (sequence .0) allowed (pack ids (itemsIn (now (items .entry)) 0 n))
+        (roundRefusal (lent ids «channel_id» (now (small .entry)) (now (lanes .entry))) (sequence .0) (pack ids (itemsIn (now (items .entry)) 0 n)) (length (now (out .entry))) (length (now (table .entry))))
+        (now (out .entry)) (now (table .entry)) (now (out .exit)) (now (table .exit)) r ⌝ }
+{
+    let mut packs = [0; PACK * (ITEMS + 1)];
+    let packed = pack(items, n, ids, &mut packs, sequence);
+    let packets = packed.packets;
+    let verdict = judge(packed, sequence, out.len(), table.len());
+    match verdict {
+        Verdict::Refused(e) => Went::Refused(e),
+        Verdict::Goes => {
+            encode(
+                out,
+                table,
+                items,
+                &packs,
+                packets,
+                channel_id,
+                ids,
+                sequence,
+                small,
+                lanes,
+            );
+            Went::Sent(Written {
+                packets,
+                bytes: packed.bytes,
+                next_sequence: Sequence(sequence.0 + packets as u64),
+                budget: Budget {
+                    allowed,
+                    spent: payload_bytes(items, n),
+                },
+            })
+        }
     }
 }

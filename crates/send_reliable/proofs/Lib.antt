@@ -1,0 +1,10 @@
+pub mod Entries
+pub mod Valid
+pub mod Queueing
+pub mod Acking
+pub mod Theorems
+pub mod RoundLists
+pub mod Visits
+pub mod Select
+pub mod Rounds
+pub mod RoundTheorems

@@ -1,0 +1,258 @@
+-- The code's choice, turn by turn, is what the definition reaches; and the three answers of a round. Assumes nothing.
+use Prim.Native.Nat.{ℕ, _+_, _*_, _-_, _≤_, _<_}
+use mathlib.Core.Path.{_≡_, refl, sym, ap, subst, _∙_}
+use mathlib.Core.Bool.{Bool, true, false, not}
+use mathlib.Core.List.{List, [], _∷_, _++_}
+use native.Mathlib.Omega.{arith}
+use native.Mathlib.Numerals.{add-one}
+use borrow.Author.Tests.{not-true, not-false, leb-false, ltb-false}
+use lib.Dec.{ltb, leb, eqb}
+use lib.ListN.{length, getD, set, take}
+use lib.Seq.{take-all}
+use Rattle.words.specs.Sizes.{SLICE_SIZE, PIECES, LIMIT}
+use Rattle.words.specs.Choice.{pick}
+use Rattle.words.specs.Pieces.{piecesOf, pieceLen}
+use Rattle.words.specs.Lists.{All, reached}
+use Rattle.words.specs.Refusal.{numberOf}
+use Rattle.words.specs.declared.Refusal.{Refusal}
+use Rattle.words.proofs.Lists.{all-at, reached-suc, none-refused}
+use Rattle.words.proofs.Tables.{clash}
+use Rattle.channel.specs.Settings.{laneLen, storesHold}
+use Rattle.channel.proofs.Good.{stores-room}
+use Rattle.pack.specs.Pack.{itemsIn, Pack, pack}
+use Rattle.pack.specs.Encode.{Lent, roundRefusal}
+use Rattle.pack.specs.Rows as rows
+use Rattle.pack.specs.Round.{Sums, sent, refused, wentOf, sums, Gives}
+use Rattle.pack.specs.declared.Written.{Written}
+use Rattle.pack.specs.declared.Went.{Went}
+use Rattle.pack.specs.declared.Went.the-variants as went
+use Rattle.pack.proofs.Pieces.{piece-most}
+use Rattle.pack.proofs.Round.{numbered-above}
+use Rattle.send_reliable.specs.declared.Sending.{Sending}
+use Rattle.send_reliable.specs.declared.Kind.the-variants.{Small, Sliced}
+use Rattle.send_reliable.specs.declared.Row.{Row}
+use Rattle.send_reliable.specs.declared.Piece.{Piece}
+use Rattle.send_reliable.specs.declared.SendChannelReliable.{SendChannelReliable}
+use Rattle.send_reliable.specs.declared.Selected.{Selected}
+use Rattle.send_reliable.specs.Sender.{ROWS, noRow, noPiece, live, Valid}
+use Rattle.send_reliable.specs.Select.{Visit, visitsFrom, sentAt, Chosen, visit, unvisited, select, withChosen}
+use Rattle.send_reliable.specs.RoundSteps.{VISIT, visitAt, visitsIn, goes, Selects}
+use Rattle.send_reliable.specs.Round.{Given, entryRefusal, packs, lent, refusalOf, stateAfter, RoundGives}
+use Rattle.send_reliable.proofs.RoundLists.{getD-each}
+use Rattle.send_reliable.proofs.Visits.{sizeRow, Within, visits-count, rows-room, visits-within}
+use Rattle.send_reliable.proofs.Select.{visit-small, visit-piece, enough, Kept, SmallHere, small-here, PieceHere, piece-here, upTo, upTo-kept, select-valid, select-goes}
+
+-- what the code has chosen so far: m items in the table, and the state's sendings
+abbrev pub chosenBy : ℕ → List ℕ → ℕ → SendChannelReliable → Chosen
+chosenBy left items m t = record { left = left; items = itemsIn items 0 m; rows = t .rows; pieces = t .pieces }
+
+-- after v visits, that is what the definition reaches, and nothing else of the state changed
+pub record ChosenTo (s : SendChannelReliable) (now a v m left : ℕ) (t : SendChannelReliable) (items : List ℕ) : Type 0 where
+  pub chosen : chosenBy left items m t ≡ upTo s now a v
+  pub state : t ≡ withChosen s (s .latest) (chosenBy left items m t)
+
+pub none-chosen : (s : SendChannelReliable) (now a : ℕ) (items : List ℕ) → ChosenTo s now a 0 0 a s items
+unfolding reached itemsIn
+none-chosen s now a items = record { chosen = refl; state = refl }
+
+-- ---- a turn
+
+abbrev WithinRows : SendChannelReliable → Visit → Type 0
+WithinRows s = Within (s .count) (λ k. sizeRow (getD (s .rows) k noRow))
+
+abbrev visiting : SendChannelReliable → ℕ → Chosen → Visit → Chosen
+visiting s now = visit (s .settings) (s .«resend_time») now
+
+-- what is known at the v-th visit
+pub record Turn (s : SendChannelReliable) (now a : ℕ) (visits : List ℕ) (v m left : ℕ) (t : SendChannelReliable) (items : List ℕ) : Type 0 where
+  pub kept : Kept s now (chosenBy left items m t)
+  pub within : WithinRows s (visitAt visits v)
+  pub row-low : getD visits (VISIT * v) 0 < ROWS
+  pub next : visiting s now (chosenBy left items m t) (visitAt visits v) ≡ upTo s now a (v + 1)
+  pub state : t ≡ withChosen s (s .latest) (chosenBy left items m t)
+
+module _ (s : SendChannelReliable) (f : Valid s) (now a : ℕ) (h : s .latest ≤ now) (visits : List ℕ) (n : ℕ) (vs : visitsIn visits n ≡ visitsFrom 0 (live s)) where
+  visit-is : (v : ℕ) → v < n → getD (visitsFrom 0 (live s)) v (record { row = 0; piece = 0 }) ≡ visitAt visits v
+  visit-is v low =
+      let z : 0 + v ≡ v = omega arith in
+      ap (λ (l : List Visit). getD l v (record { row = 0; piece = 0 })) (sym vs) ∙ getD-each (visitAt visits) 0 n v (record { row = 0; piece = 0 }) low ∙ ap (visitAt visits) z
+
+  pub turn : (v m left : ℕ) (t : SendChannelReliable) (items : List ℕ) → ChosenTo s now a v m left t items → v < n → Turn s now a visits v m left t items
+  turn v m left t items w low =
+      let l : v < length (visitsFrom 0 (live s)) = omega (arith, visits-count visits n (visitsFrom 0 (live s)) vs) in
+      let q : WithinRows s (visitAt visits v) = subst (WithinRows s) (visit-is v low) (all-at (WithinRows s) (visitsFrom 0 (live s)) v (record { row = 0; piece = 0 }) l (visits-within s f)) in
+      record {
+        kept = subst (Kept s now) (sym (w .chosen)) (upTo-kept s f now h a v);
+        within = q;
+        row-low = omega (arith, q .0, rows-room s f, f .rows-long);
+        next =
+            ap (λ (c : Chosen). visiting s now c (visitAt visits v)) (w .chosen)
+            ∙ sym (ap (λ (k : ℕ). reached (visiting s now) (unvisited s a) (take k (visitsFrom 0 (live s)))) (add-one v) ∙ reached-suc (λ (c : Chosen) (x : Visit). x) (visiting s now) (unvisited s a) (visitsFrom 0 (live s)) v (record { row = 0; piece = 0 }) l
+            ∙ ap (visiting s now (upTo s now a v)) (visit-is v low));
+        state = w .state;
+      }
+
+  -- at the end
+  pub all-chosen : (m left : ℕ) (t : SendChannelReliable) (items : List ℕ) (v : ℕ) → ChosenTo s now a v m left t items → n ≤ v → m ≤ n
+      → Selects s now a n items (record { items = m; state = withChosen t now (chosenBy left items m t) })
+  unfolding select
+  all-chosen m left t items v w e few =
+      let c : chosenBy left items m t ≡ select s now a =
+      w .chosen ∙ ap (reached (visiting s now) (unvisited s a)) (take-all v (visitsFrom 0 (live s)) (omega (arith, visits-count visits n (visitsFrom 0 (live s)) vs))) in
+      record {
+        items = ap (λ (d : Chosen). d .items) c;
+        few = few;
+        state = ap (λ (u : SendChannelReliable). withChosen u now (chosenBy left items m t)) (w .state) ∙ ap (withChosen s now) c;
+      }
+
+-- the state with these tables
+abbrev pub put : SendChannelReliable → List Row → List Piece → SendChannelReliable
+put t rows pieces = withChosen t (t .latest) (record { left = 0; items = []; rows = rows; pieces = pieces })
+
+module _ {s : SendChannelReliable} {now a : ℕ} {visits : List ℕ} {v m left : ℕ} {t : SendChannelReliable} {items : List ℕ} (k : Turn s now a visits v m left t items) where
+  abbrev r : Row
+  r = getD (t .rows) (getD visits (VISIT * v) 0) noRow
+
+  abbrev i : ℕ
+  i = getD visits (VISIT * v + 1) 0
+
+  passed : visiting s now (chosenBy left items m t) (visitAt visits v) ≡ chosenBy left items m t → ChosenTo s now a (v + 1) m left t items
+  passed e = record { chosen = sym e ∙ k .next; state = k .state }
+
+  module _ (cell : ℕ) (last : Sending) (e : r .kind ≡ Small cell last) where
+    abbrev small-rows : List Row
+    small-rows = set (t .rows) (getD visits (VISIT * v) 0) (record { id = r .id; len = r .len; kind = Small cell (sentAt now) })
+
+    pub at-small : SmallHere s now r cell last
+    at-small = small-here s now (chosenBy left items m t) (k .kept) (visitAt visits v) (k .within) cell last e
+
+    pub small-covered : goes (s .«resend_time») now left (r .len) (last .«last_sent») ≡ true → r .len ≤ left
+    small-covered g = enough (s .«resend_time») now left (r .len) (last .«last_sent») g
+
+    pub small-passed : goes (s .«resend_time») now left (r .len) (last .«last_sent») ≡ false → ChosenTo s now a (v + 1) m left t items
+    small-passed g = passed (visit-small (s .settings) (s .«resend_time») now (chosenBy left items m t) (visitAt visits v) cell last e ∙ rw g)
+
+    pub small-chosen : goes (s .«resend_time») now left (r .len) (last .«last_sent») ≡ true
+        → (items' : List ℕ) → itemsIn items' 0 (m + 1) ≡ itemsIn items 0 m ++ (record { num = 0; id = r .id .0; index = 0; place = cell * SLICE_SIZE; len = r .len } ∷ [])
+        → ChosenTo s now a (v + 1) (m + 1) (left - r .len)
+        (put t small-rows (t .pieces)) items'
+    small-chosen g items' p =
+        record {
+          chosen = rw p (sym (visit-small (s .settings) (s .«resend_time») now (chosenBy left items m t) (visitAt visits v) cell last e ∙ rw g) ∙ k .next);
+          state = ap (λ (u : SendChannelReliable). put u small-rows (t .pieces)) (k .state);
+        }
+
+  module _ (l b next : ℕ) (e : r .kind ≡ Sliced l b next) where
+    abbrev p : Piece
+    p = getD (t .pieces) (l * PIECES + i) noPiece
+
+    abbrev piece-rows : List Row
+    piece-rows = set (t .rows) (getD visits (VISIT * v) 0) (record { id = r .id; len = r .len; kind = Sliced l b (i + 1) })
+
+    abbrev sent-pieces : List Piece
+    sent-pieces = set (t .pieces) (l * PIECES + i) (record { acked = p .acked; sending = sentAt now })
+
+    pub at-piece : PieceHere s now (chosenBy left items m t) r l b i
+    at-piece = piece-here s now (chosenBy left items m t) (k .kept) (visitAt visits v) (k .within) l b next e
+
+    pub piece-covered : goes (s .«resend_time») now left SLICE_SIZE (p .sending .«last_sent») ≡ true → pieceLen (r .len) i ≤ left
+    piece-covered g = omega (arith, enough (s .«resend_time») now left SLICE_SIZE (p .sending .«last_sent») g, piece-most (r .len) i (at-piece .piece))
+
+    abbrev tests : Bool
+    tests = pick (p .acked) false (goes (s .«resend_time») now left SLICE_SIZE (p .sending .«last_sent»))
+
+    piece-passed : tests ≡ false → ChosenTo s now a (v + 1) m left t items
+    piece-passed g = passed (visit-piece (s .settings) (s .«resend_time») now (chosenBy left items m t) (visitAt visits v) l b next e ∙ rw g)
+
+    -- a piece that is acked, and one that is not due or not covered
+    pub piece-acked : not (p .acked) ≡ false → ChosenTo s now a (v + 1) m left t items
+    piece-acked u = piece-passed (rw (not-false (p .acked) u))
+
+    pub piece-stays : not (p .acked) ≡ true → goes (s .«resend_time») now left SLICE_SIZE (p .sending .«last_sent») ≡ false → ChosenTo s now a (v + 1) m left t items
+    piece-stays u g = piece-passed (rw (not-true (p .acked) u) g)
+
+    pub piece-chosen : not (p .acked) ≡ true → goes (s .«resend_time») now left SLICE_SIZE (p .sending .«last_sent») ≡ true
+        → (items' : List ℕ) (num size : ℕ) → num ≡ piecesOf (r .len) → size ≡ pieceLen (r .len) i
+        → itemsIn items' 0 (m + 1) ≡ itemsIn items 0 m ++ (record { num = num; id = r .id .0; index = i; place = l * laneLen (s .settings) + i * SLICE_SIZE; len = size } ∷ [])
+        → ChosenTo s now a (v + 1) (m + 1) (left - size)
+        (put t piece-rows sent-pieces) items'
+    piece-chosen u g items' num size en es q =
+        record {
+          chosen = rw (q, en, es) (sym (visit-piece (s .settings) (s .«resend_time») now (chosenBy left items m t) (visitAt visits v) l b next e ∙ rw (not-true (p .acked) u, g)) ∙ k .next);
+          state = ap (λ (u : SendChannelReliable). put u piece-rows sent-pieces) (k .state);
+        }
+
+-- ---- a round
+
+sent-none : (b : Bool) (x y : Sums) (e : ℕ) → sent x ≡ pick b (sent y) (refused e) → b ≡ true
+sent-none true x y e h = refl
+sent-none false x y e h = clash (cc)
+
+refused-some : (b : Bool) (y : Sums) (n e : ℕ) → refused n ≡ pick b (sent y) (refused e) → b ≡ false
+refused-some true y n e h = clash (cc)
+refused-some false y n e h = refl
+
+-- by what a round answers it was accepted, or not
+module _ {l : Lent} {seq allowance : ℕ} {ps : List Pack} {e : ℕ} {out table out' table' : List ℕ} {a : Went} (w : Gives l seq allowance ps e out table out' table' a) where
+  pub accepted : (x : Written) → a ≡ went.Sent x → eqb e 0 ≡ true
+  accepted x h = sent-none (eqb e 0) _ (sums l seq allowance ps) e (sym (ap wentOf h) ∙ w .answer)
+
+  pub stopped : (x : Refusal) → a ≡ went.Refused x → eqb e 0 ≡ false
+  stopped x h = refused-some (eqb e 0) (sums l seq allowance ps) (numberOf x) e (sym (ap wentOf h) ∙ w .answer)
+
+module _ (s : SendChannelReliable) (f : Valid s) (g : Given) (out table : List ℕ) where
+  abbrev number : ℕ
+  number = refusalOf s g (length out) (length table)
+
+  -- refused before anything is chosen
+  pub round-refused : (e : Refusal) → numberOf e ≡ entryRefusal s g → RoundGives s g out table out table (record { answer = went.Refused e; state = s })
+  unfolding refusalOf
+  round-refused e h =
+      let n : entryRefusal s g ≡ numberOf e = sym h in
+      let z : refusalOf s g (length out) (length table) ≡ numberOf e = rw (n, numbered-above e) in
+      record {
+        went = record { answer = rw (z, numbered-above e); bytes = rw (z, numbered-above e); entries = rw (z, numbered-above e) };
+        state = rw (z, numbered-above e);
+        valid = f;
+      }
+
+  module _ (entered : 0 ≡ entryRefusal s g) where
+    pub entry-tests : (storesHold (s .settings) (length (g .small)) (length (g .lanes)) ≡ true) × (g .seq < LIMIT) × (s .latest ≤ g .now)
+    unfolding entryRefusal All
+    entry-tests =
+        let a =
+        none-refused (
+        (not (storesHold (s .settings) (length (g .small)) (length (g .lanes))), 10) ∷
+        (leb LIMIT (g .seq), 13) ∷
+        (ltb (g .now) (s .latest), 14) ∷ []
+        )
+        refl (sym entered) in
+        (not-false _ (a .0), leb-false _ _ (a .1 .0), ltb-false _ _ (a .1 .1 .0))
+
+    -- what was chosen may go
+    module _ (n : ℕ) (items : List ℕ) (r : Selected) (w : Selects s (g .now) (g .allowance) n items r) where
+      pub items-go : All (rows.Chosen (lent s g)) (itemsIn items 0 (r .items))
+      items-go =
+          let t = entry-tests in
+          rw (w .items) (select-goes s f (g .now) (t .2) (g .allowance) (g .small) (g .lanes) (stores-room (s .settings) (length (g .small)) (length (g .lanes)) (t .0)))
+
+      module _ (out' table' : List ℕ) (a : Went)
+          (given : Gives (lent s g) (g .seq) (g .allowance) (pack true (itemsIn items 0 (r .items)))
+          (roundRefusal (lent s g) (g .seq) (pack true (itemsIn items 0 (r .items))) (length out) (length table)) out table out' table' a) where
+        gives : Gives (lent s g) (g .seq) (g .allowance) (packs s g) number out table out' table' a
+        unfolding refusalOf
+        gives = let z : entryRefusal s g ≡ 0 = sym entered in rw z (rw (w .items) at given)
+
+        -- it went
+        pub round-sent : (x : Written) → a ≡ went.Sent x → RoundGives s g out table out' table' (record { answer = a; state = r .state })
+        unfolding stateAfter
+        round-sent x e =
+            record {
+              went = gives;
+              state = rw (accepted gives x e) (w .state);
+              valid = rw (w .state) (select-valid s f (g .now) (entry-tests .2) (g .allowance));
+            }
+
+        -- or its packets were refused
+        pub round-stopped : (e : Refusal) → a ≡ went.Refused e → RoundGives s g out table out' table' (record { answer = a; state = s })
+        round-stopped e h = record { went = gives; state = rw (stopped gives e h); valid = f }

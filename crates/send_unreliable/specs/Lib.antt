@@ -1,0 +1,4 @@
+pub mod Sender
+pub mod Round
+pub mod Steps
+pub mod Laws
