@@ -21,7 +21,7 @@ use Rattle.send_reliable.specs.declared.Ack.the-variants as ack
 use Rattle.send_reliable.specs.Sender.{noRow, pieceAt, Valid}
 use Rattle.send_reliable.specs.Ack.{rowOf, closed, without, ackOf, done, unknown, refused, After, after, ackRow, ackSmall, marked, withAck, ackPiece, AckGives}
 use Rattle.send_reliable.specs.QueueSteps.{foundOf, RowAt}
-use Rattle.send_reliable.proofs.Entries.{close-none, close-more}
+use Rattle.words.proofs.Entries.{close-none, close-more}
 use Rattle.send_reliable.proofs.Valid.{without-small-valid, without-sliced-valid, marked-valid}
 
 -- ---- closing up: before the first turn, a turn, and after the last

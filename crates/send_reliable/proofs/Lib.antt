@@ -1,4 +1,3 @@
-pub mod Entries
 pub mod Valid
 pub mod Queueing
 pub mod Acking

@@ -1,18 +1,16 @@
 -- Laws of lists and tables that know no size and no record. Assumes nothing.
 use Prim.Native.Nat.{ℕ, zero, suc, _+_, _≤_, _<_, zero-le, suc-le-suc}
-use mathlib.Core.Path.{_≡_, refl, sym, ap, subst, _∙_}
+use mathlib.Core.Path.{_≡_, refl, sym, ap, _∙_}
 use mathlib.Core.Bool.{Bool, true, false}
 use mathlib.Core.List.{List, [], _∷_, _++_}
 use native.Mathlib.Omega.{arith}
 use native.Mathlib.Nat.{add-zero, not-suc-le-zero, le-of-suc-le-suc}
 use native.Mathlib.Numerals.{add-one}
 use lib.ListN.{length, getD, set, take, drop, List·getD-map}
-use lib.Seq.{getD-take, getD-drop, getD-set-other, map-set-same}
+use lib.Seq.{getD-set-other, map-set-same}
 use Rattle.words.specs.Choice.{pick}
-use Rattle.words.specs.Lists.{splice, holds, total, All, Pairs, reached}
-use Rattle.words.proofs.Lists.{holds-less, all-map, all-at, all-both}
-use Rattle.words.proofs.Splice.{take-splice}
-use Rattle.words.proofs.Suffix.{drop-at-splice}
+use Rattle.words.specs.Lists.{holds, total, All, Pairs, reached}
+use Rattle.words.proofs.Lists.{holds-less, all-both}
 use Rattle.words.proofs.Tables.{by-test, clash}
 use Rattle.send_reliable.specs.RoundSteps.{each}
 
@@ -55,18 +53,6 @@ module _ {A : Type 0} where
       let z : 0 + m ≡ m = omega arith in
       rw (add-one, each-more, z, h, each-same g f 0 m (λ j l. e j (omega arith)))
 
--- ---- words that are put into a table
-
-module _ {A : Type 0} (at : ℕ) (ws s : List A) (d : A) where
-  -- those before stay
-  pub splice-before : (i : ℕ) → i < at → getD (splice at ws s) i d ≡ getD s i d
-  splice-before i h =
-      sym (getD-take at (splice at ws s) i d h) ∙ ap (λ (l : List A). getD l i d) (take-splice at at ws s (omega arith)) ∙ getD-take at s i d h
-
-  -- and its own are there
-  pub splice-word : at + length ws ≤ length s → (i : ℕ) → getD (splice at ws s) (at + i) d ≡ getD (ws ++ drop (at + length ws) s) i d
-  splice-word h i = sym (getD-drop at (splice at ws s) i d) ∙ ap (λ (l : List A). getD l i d) (drop-at-splice at ws s h)
-
 -- ---- a walk
 
 -- what every step keeps
@@ -84,33 +70,10 @@ reached-keeps g P Q f s (x ∷ xs) a p = reached-keeps g P Q f (g s x) xs (a .1)
 -- ---- a table of which one entry is put anew
 
 module _ {A : Type 0} where
-  pub all-set : (P : A → Type 0) (xs : List A) (k : ℕ) (y : A) → All P xs → P y → All P (set xs k y)
-  unfolding All
-  all-set P [] k y a p = tt
-  all-set P (x ∷ xs) zero y a p = (p, a .1)
-  all-set P (x ∷ xs) (suc k) y a p = (a .0, all-set P xs k y (a .1) p)
-
-  -- the new one stands in R as the old one did
-  pub pairs-anew :
-      (R : A → A → Type 0) (xs : List A) (k : ℕ) (d v : A) → k < length xs
-      → ((x : A) → R x (getD xs k d) → R x v) → ((x : A) → R (getD xs k d) x → R v x) → Pairs R xs → Pairs R (set xs k v)
-  unfolding All Pairs
-  pairs-anew R [] k d v h f g p = absurd (not-suc-le-zero h)
-  pairs-anew R (x ∷ xs) zero d v h f g p = (all-map (R x) (R v) g xs (p .0), p .1)
-  pairs-anew R (x ∷ xs) (suc k) d v h f g p = (
-    all-set (R x) xs k v (p .0) (f x (all-at (R x) xs k d (le-of-suc-le-suc h) (p .0))),
-    pairs-anew R xs k d v (le-of-suc-le-suc h) f g (p .1),
-  )
-
   -- what f says of each entry stays, where it says the same of the one that is put anew
   pub same-set : {B : Type 0} (f : A → B) (xs : List A) (k : ℕ) (y d : A) → f y ≡ f (getD xs k d) → (j : ℕ) → f (getD (set xs k y) j d) ≡ f (getD xs j d)
   same-set {B} f xs k y d e j =
       sym (List·getD-map f (set xs k y) j d) ∙ ap (λ (l : List B). getD l j (f d)) (map-set-same f xs k y d e) ∙ List·getD-map f xs j d
-
-  pub pairs-map : (R S : A → A → Type 0) → ((x y : A) → R x y → S x y) → (xs : List A) → Pairs R xs → Pairs S xs
-  unfolding Pairs
-  pairs-map R S f [] p = tt
-  pairs-map R S f (x ∷ xs) p = (all-map (R x) (S x) (f x) xs (p .0), pairs-map R S f xs (p .1))
 
 -- ---- sums
 

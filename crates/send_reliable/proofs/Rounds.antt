@@ -2,7 +2,7 @@
 use Prim.Native.Nat.{ℕ, _+_, _*_, _-_, _≤_, _<_}
 use mathlib.Core.Path.{_≡_, refl, sym, ap, subst, _∙_}
 use mathlib.Core.Bool.{Bool, true, false, not}
-use mathlib.Core.List.{List, [], _∷_, _++_}
+use mathlib.Core.List.{List, [], _∷_}
 use native.Mathlib.Omega.{arith}
 use native.Mathlib.Numerals.{add-one}
 use borrow.Author.Tests.{not-true, not-false, leb-false, ltb-false}
@@ -12,14 +12,15 @@ use lib.Seq.{take-all}
 use Rattle.words.specs.Sizes.{SLICE_SIZE, PIECES, LIMIT}
 use Rattle.words.specs.Choice.{pick}
 use Rattle.words.specs.Pieces.{piecesOf, pieceLen}
-use Rattle.words.specs.Lists.{All, reached}
+use Rattle.words.specs.Lists.{splice, All, reached}
 use Rattle.words.specs.Refusal.{numberOf}
 use Rattle.words.specs.declared.Refusal.{Refusal}
 use Rattle.words.proofs.Lists.{all-at, reached-suc, none-refused}
 use Rattle.words.proofs.Tables.{clash}
 use Rattle.channel.specs.Settings.{laneLen, storesHold}
 use Rattle.channel.proofs.Good.{stores-room}
-use Rattle.pack.specs.Pack.{itemsIn, Pack, pack}
+use Rattle.pack.specs.Pack.{ITEM, itemsIn, Pack, pack}
+use Rattle.pack.specs.Steps.{itemWords}
 use Rattle.pack.specs.Encode.{Lent, roundRefusal}
 use Rattle.pack.specs.Rows as rows
 use Rattle.pack.specs.Round.{Sums, sent, refused, wentOf, sums, Gives}
@@ -27,6 +28,7 @@ use Rattle.pack.specs.declared.Written.{Written}
 use Rattle.pack.specs.declared.Went.{Went}
 use Rattle.pack.specs.declared.Went.the-variants as went
 use Rattle.pack.proofs.Pieces.{piece-most}
+use Rattle.pack.proofs.Tables.{items-put}
 use Rattle.pack.proofs.Round.{numbered-above}
 use Rattle.send_reliable.specs.declared.Sending.{Sending}
 use Rattle.send_reliable.specs.declared.Kind.the-variants.{Small, Sliced}
@@ -133,12 +135,13 @@ module _ {s : SendChannelReliable} {now a : ℕ} {visits : List ℕ} {v m left :
     small-passed g = passed (visit-small (s .settings) (s .«resend_time») now (chosenBy left items m t) (visitAt visits v) cell last e ∙ rw g)
 
     pub small-chosen : goes (s .«resend_time») now left (r .len) (last .«last_sent») ≡ true
-        → (items' : List ℕ) → itemsIn items' 0 (m + 1) ≡ itemsIn items 0 m ++ (record { num = 0; id = r .id .0; index = 0; place = cell * SLICE_SIZE; len = r .len } ∷ [])
+        → ITEM * (m + 1) ≤ length items
+        → (items' : List ℕ) → items' ≡ splice (ITEM * m) (itemWords (record { num = 0; id = r .id .0; index = 0; place = cell * SLICE_SIZE; len = r .len })) items
         → ChosenTo s now a (v + 1) (m + 1) (left - r .len)
         (put t small-rows (t .pieces)) items'
-    small-chosen g items' p =
+    small-chosen g h items' q =
         record {
-          chosen = rw p (sym (visit-small (s .settings) (s .«resend_time») now (chosenBy left items m t) (visitAt visits v) cell last e ∙ rw g) ∙ k .next);
+          chosen = rw (q, items-put items m (record { num = 0; id = r .id .0; index = 0; place = cell * SLICE_SIZE; len = r .len }) h) (sym (visit-small (s .settings) (s .«resend_time») now (chosenBy left items m t) (visitAt visits v) cell last e ∙ rw g) ∙ k .next);
           state = ap (λ (u : SendChannelReliable). put u small-rows (t .pieces)) (k .state);
         }
 
@@ -172,13 +175,13 @@ module _ {s : SendChannelReliable} {now a : ℕ} {visits : List ℕ} {v m left :
     piece-stays u g = piece-passed (rw (not-true (p .acked) u) g)
 
     pub piece-chosen : not (p .acked) ≡ true → goes (s .«resend_time») now left SLICE_SIZE (p .sending .«last_sent») ≡ true
-        → (items' : List ℕ) (num size : ℕ) → num ≡ piecesOf (r .len) → size ≡ pieceLen (r .len) i
-        → itemsIn items' 0 (m + 1) ≡ itemsIn items 0 m ++ (record { num = num; id = r .id .0; index = i; place = l * laneLen (s .settings) + i * SLICE_SIZE; len = size } ∷ [])
+        → ITEM * (m + 1) ≤ length items → (items' : List ℕ) (num size : ℕ) → num ≡ piecesOf (r .len) → size ≡ pieceLen (r .len) i
+        → items' ≡ splice (ITEM * m) (itemWords (record { num = num; id = r .id .0; index = i; place = l * laneLen (s .settings) + i * SLICE_SIZE; len = size })) items
         → ChosenTo s now a (v + 1) (m + 1) (left - size)
         (put t piece-rows sent-pieces) items'
-    piece-chosen u g items' num size en es q =
+    piece-chosen u g h items' num size en es q =
         record {
-          chosen = rw (q, en, es) (sym (visit-piece (s .settings) (s .«resend_time») now (chosenBy left items m t) (visitAt visits v) l b next e ∙ rw (not-true (p .acked) u, g)) ∙ k .next);
+          chosen = rw (q, items-put items m (record { num = num; id = r .id .0; index = i; place = l * laneLen (s .settings) + i * SLICE_SIZE; len = size }) h, en, es) (sym (visit-piece (s .settings) (s .«resend_time») now (chosenBy left items m t) (visitAt visits v) l b next e ∙ rw (not-true (p .acked) u, g)) ∙ k .next);
           state = ap (λ (u : SendChannelReliable). put u piece-rows sent-pieces) (k .state);
         }
 

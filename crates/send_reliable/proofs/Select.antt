@@ -31,7 +31,8 @@ use Rattle.send_reliable.specs.declared.SendChannelReliable.{SendChannel
 use Rattle.send_reliable.specs.Sender.{noRow, noPiece, live, SentBy, ackedPieces, PlacedKind, Placed, Apart, Before, Valid}
 use Rattle.send_reliable.specs.Select.{Visit, visitsFrom, due, sentAt, Chosen, withSmall, withPiece, visitKind, visit, unvisited, select, withChosen}
 use Rattle.send_reliable.specs.RoundSteps.{goes}
-use Rattle.send_reliable.proofs.RoundLists.{reached-keeps, all-set, pairs-anew, same-set, total-part}
+use Rattle.words.proofs.Entries.{all-set, pairs-anew}
+use Rattle.send_reliable.proofs.RoundLists.{reached-keeps, same-set, total-part}
 use Rattle.send_reliable.proofs.Visits.{sizeRow, Within, length-live, visits-within}
 
 -- ---- the cases of a visit

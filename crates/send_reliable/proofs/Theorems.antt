@@ -38,7 +38,7 @@ use Rattle.send_reliable.specs.Sender.{noRow, live, pieceAt, Placed, Bef
 use Rattle.send_reliable.specs.Queue as q
 use Rattle.send_reliable.specs.Ack as a
 use Rattle.send_reliable.specs.QueueSteps.{RowFits, foundOf, RowAt}
-use Rattle.send_reliable.proofs.Entries.{first-miss, pairs-map, pairs-at}
+use Rattle.words.proofs.Entries.{first-miss, pairs-map, pairs-at}
 use Rattle.send_reliable.proofs.Valid.{live-long, live-more, in-live, live-at, row-placed, row-closes, cell-low, lane-low, live-fewer, without-small-valid, without-sliced-valid}
 use Rattle.send_reliable.proofs.Queueing.{spot-cell, spot-lane, cell-fits, lane-fits}
 use Rattle.send_reliable.proofs.Acking.{row-found, piece-last}

@@ -27,7 +27,7 @@ use Rattle.send_reliable.specs.Sender.{ROWS, unsent, noRow, noPiece, new
 use Rattle.send_reliable.specs.Queue.{addRow, addSmall, addSliced}
 use Rattle.send_reliable.specs.Ack as ack
 use Rattle.send_reliable.specs.QueueSteps.{RowAt, Closes}
-use Rattle.send_reliable.proofs.Entries.{all-set, all-splice, all-replicate, total-replicate, all-anew, pairs-anew, run-apart, part-set, live-closed, length-closed}
+use Rattle.words.proofs.Entries.{all-set, all-splice, all-replicate, total-replicate, all-anew, pairs-anew, run-apart, part-set, live-closed, length-closed}
 
 -- a message's length, and whether a piece is acknowledged
 abbrev lenOf : Row → ℕ

@@ -1,4 +1,4 @@
--- Laws of the visits of a round: the tables of visits and items, how many visits there are, and that each is to a piece of a waiting message.
+-- Laws of the visits of a round: their table, how many visits there are, and that each is to a piece of a waiting message.
 -- Assumes nothing.
 use Prim.Native.Nat.{ℕ, zero, suc, _+_, _*_, _-_, _≤_, _<_}
 use mathlib.Core.Path.{_≡_, refl, sym, ap, _∙_}
@@ -6,7 +6,7 @@ use mathlib.Core.Bool.{Bool, true, false}
 use mathlib.Core.List.{List, [], _∷_, _++_, append-nil, append-assoc}
 use native.Mathlib.Omega.{arith}
 use native.Mathlib.Nat.{add-zero, sub-zero, not-suc-le-zero, le-of-suc-le-suc}
-use native.Mathlib.Numerals.{add-one, add-two, add-three, add-four}
+use native.Mathlib.Numerals.{add-one}
 use lib.ListN.{length, getD, set, take, drop, length-append}
 use lib.Seq.{getD-take, length-take-le, take-all}
 use Rattle.words.specs.Sizes.{PIECES}
@@ -16,8 +16,8 @@ use Rattle.words.specs.Lists.{splice, holds, total, All}
 use Rattle.words.proofs.Lists.{holds-le, all-map, all-at, all-take, all-append}
 use Rattle.words.proofs.Tables.{clash}
 use Rattle.channel.specs.Settings.{Good}
-use Rattle.pack.specs.Pack.{Item, ITEM, itemAt, itemsIn}
 use Rattle.pack.specs.Round.{ITEMS}
+use Rattle.pack.proofs.Tables.{word-put, word-before}
 use Rattle.send_reliable.specs.declared.Kind.{Kind}
 use Rattle.send_reliable.specs.declared.Kind.the-variants.{Small, Sliced}
 use Rattle.send_reliable.specs.declared.Row.{Row}
@@ -25,41 +25,8 @@ use Rattle.send_reliable.specs.declared.SendChannelReliable.{SendChannel
 use Rattle.send_reliable.specs.Sender.{noRow, live, PlacedKind, Placed, Apart, Before, Valid}
 use Rattle.send_reliable.specs.Select.{Visit, upFrom, rowVisits, visitsFrom}
 use Rattle.send_reliable.specs.RoundSteps.{each, VISIT, visitAt, visitsIn, Ranged}
-use Rattle.send_reliable.proofs.RoundLists.{each-more, length-each, all-each, each-put, splice-before, splice-word, pairs-map, total-front, places-few}
-
--- ---- the table of items
-
-items-each : (t : List ℕ) (i n : ℕ) → itemsIn t i n ≡ each (itemAt t) i n
-unfolding itemsIn each
-items-each t i zero = refl
-items-each t i (suc n) = ap (λ (l : List Item). itemAt t i ∷ l) (items-each t (i + 1) n)
-
-abbrev itemWords : Item → List ℕ
-itemWords x = x .num ∷ x .id ∷ x .index ∷ x .place ∷ x .len ∷ []
-
-module _ (t : List ℕ) (m : ℕ) (x : Item) (h : ITEM * (m + 1) ≤ length t) where
-  abbrev itemed : List ℕ
-  itemed = splice (ITEM * m) (itemWords x) t
-
-  before-item : (i : ℕ) → i < ITEM * m → getD itemed i 0 ≡ getD t i 0
-  before-item = splice-before (ITEM * m) (itemWords x) t 0
-
-  item-word : (i : ℕ) → getD itemed (ITEM * m + i) 0 ≡ getD (itemWords x ++ drop (ITEM * m + 5) t) i 0
-  item-word = splice-word (ITEM * m) (itemWords x) t 0 (omega arith)
-
-  items-put : itemsIn itemed 0 (m + 1) ≡ itemsIn t 0 m ++ (x ∷ [])
-  items-put =
-      rw (items-each itemed 0 (m + 1), items-each t 0 m)
-      (each-put (itemAt t) (itemAt itemed) m x
-      (λ j l. rw (before-item (ITEM * j) (omega arith), before-item (ITEM * j + 1) (omega arith), before-item (ITEM * j + 2) (omega arith), before-item (ITEM * j + 3) (omega arith), before-item (ITEM * j + 4) (omega arith)))
-      (rw (rw add-zero at (item-word 0), item-word 1, item-word 2, item-word 3, item-word 4)))
-
-  -- as the code puts it
-  pub item-put :
-      itemsIn (set (set (set (set (set t (ITEM * m) (x .num)) (ITEM * m + 1) (x .id)) (ITEM * m + 2) (x .index)) (ITEM * m + 3) (x .place)) (ITEM * m + 4) (x .len)) 0 (m + 1)
-      ≡ itemsIn t 0 m ++ (x ∷ [])
-  unfolding splice
-  item-put = simp (add-one (ITEM * m), add-two (ITEM * m), add-three (ITEM * m), add-four (ITEM * m)) items-put
+use Rattle.words.proofs.Entries.{pairs-map}
+use Rattle.send_reliable.proofs.RoundLists.{each-more, length-each, all-each, each-put, total-front, places-few}
 
 -- ---- the table of visits
 
@@ -68,10 +35,10 @@ module _ (t : List ℕ) (m k i : ℕ) (h : VISIT * (m + 1) ≤ length t) where
   visited = splice (VISIT * m) (k ∷ i ∷ []) t
 
   before-visit : (j : ℕ) → j < VISIT * m → getD visited j 0 ≡ getD t j 0
-  before-visit = splice-before (VISIT * m) (k ∷ i ∷ []) t 0
+  before-visit j = word-before t (k ∷ i ∷ []) (VISIT * m) j
 
   visit-word : (j : ℕ) → getD visited (VISIT * m + j) 0 ≡ getD (k ∷ i ∷ drop (VISIT * m + 2) t) j 0
-  visit-word = splice-word (VISIT * m) (k ∷ i ∷ []) t 0 (omega arith)
+  visit-word = word-put t (k ∷ i ∷ []) (VISIT * m) (omega arith)
 
   visits-put : visitsIn visited (m + 1) ≡ visitsIn t m ++ (record { row = k; piece = i } ∷ [])
   visits-put =

@@ -9,9 +9,9 @@ ghost use Rattle.send_reliable.specs.Sender.{noRow, noPiece, newOf, Vali
 ghost use Rattle.send_reliable.specs.Queue.{freeSpot, spotOf, addRow, addSliced, availableMemory, canSend, QueueGives};
 ghost use Rattle.send_reliable.specs.Ack.{without, ackSmall, withAck, ackPiece, AckGives};
 ghost use Rattle.send_reliable.specs.QueueSteps.{placeOf, RowFits, foundOf, RowAt, Closes};
-ghost use mathlib.Core.List.{[], _∷_, _++_};
+ghost use mathlib.Core.List.{_++_};
 ghost use Rattle.channel.specs.Settings.{Good};
-ghost use Rattle.pack.specs.Pack.{ITEM, itemsIn};
+ghost use Rattle.pack.specs.Pack.{ITEM};
 ghost use Rattle.pack.specs.Rows.{verdictOf};
 ghost use Rattle.pack.specs.Round.{ITEMS};
 ghost use Rattle.send_reliable.specs.Select.{upFrom, rowVisits, visitsFrom, due};
@@ -593,27 +593,6 @@ fn goes(need: usize, left: u64, sending: Sending, current_time: u64, resend_time
     is_due(sending, current_time, resend_time)
 }
 
-// Writes the m-th item of the items' table.
-fn put_item(
-    items: &mut [u64],
-    m: usize,
-    num: usize,
-    id: u64,
-    index: usize,
-    place: usize,
-    len: usize,
-)
-    requires { ⌜ ITEM * (m + 1) ≤ length (now items) ⌝ }
-    ensures { λ _. ⌜ itemsIn (now (items .exit)) 0 (m + 1) ≡ itemsIn (now (items .entry)) 0 m ++ (record { num = num; id = id; index = index; place = place; len = len } ∷ []) ⌝ }
-{
-    let j = ITEM * m;
-    items[j] = num as u64;
-    items[j + 1] = id;
-    items[j + 2] = index as u64;
-    items[j + 3] = place as u64;
-    items[j + 4] = len as u64;
-}
-
 impl SendChannelReliable {
     // Writes what a round looks at, in its order, and answers how many visits there are.
     fn write_visits(self, visits: &mut [u64]) -> usize
@@ -670,7 +649,7 @@ impl SendChannelReliable {
                     if goes(len, left, last, current_time, resend_time) {
                         let kind = Kind::Small(cell, sending);
                         self.rows[k] = Row { id, len, kind };
-                        put_item(items, m, 0, id.0, 0, cell * SLICE_SIZE, len);
+                        pack::put_item(items, m, 0, id, SliceIndex(0), cell * SLICE_SIZE, len);
                         left -= len as u64;
                         m += 1;
                     }
@@ -686,7 +665,8 @@ impl SendChannelReliable {
                         self.rows[k] = Row { id, len, kind };
                         self.pieces[j] = Piece { acked, sending };
                         let place = lane * lane_len + i * SLICE_SIZE;
-                        put_item(items, m, pack::num_slices(len), id.0, i, place, size);
+                        let index = SliceIndex(i as u64);
+                        pack::put_item(items, m, pack::num_slices(len), id, index, place, size);
                         left -= size as u64;
                         m += 1;
                     }

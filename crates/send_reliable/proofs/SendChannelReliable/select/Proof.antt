@@ -105,8 +105,8 @@ enum-known-kind c = search needs
 goes-requires : tie.Need-goes-requires Inv-loop μ-loop
 goes-requires c κs = small c .sent
 
-mul-t46 : tie.Need-mul-t46 Inv-loop μ-loop
-mul-t46 c = let k = known (small-turn (c .before .before)) .row-low in omega arith
+mul-t47 : tie.Need-mul-t47 Inv-loop μ-loop
+mul-t47 c = let k = known (small-turn (c .before .before)) .row-low in omega arith
 
 element-set-from-self : tie.Need-element-set-from-self Inv-loop μ-loop
 element-set-from-self c = let k = known (small-turn (c .before .before)) .row-low in omega arith
@@ -133,7 +133,7 @@ loop-again c =
       omega (arith, i .loop-test .taken),
       omega (arith, i .before .loop .inv),
       omega (arith, i .before .loop .inv),
-      small-chosen (known i) (e .0 .0) (e .0 .1 .0) (e .1) (sym (c .before .before .before .before .before .goes .ensures) ∙ c .before .before .before .before .if1 .taken) (c .before .before .put-item .last .0) (c .before .before .put-item .ensures),
+      small-chosen (known i) (e .0 .0) (e .0 .1 .0) (e .1) (sym (c .before .before .before .before .before .goes .ensures) ∙ c .before .before .before .before .if1 .taken) (room i) (c .before .before .put-item .last .0) (c .before .before .put-item .ensures),
     )
 
 loop-less-2 : tie.Need-loop-less-2 Inv-loop μ-loop
@@ -170,17 +170,17 @@ slice-len-requires c κs = let h = piece (c .before .before) in let g = good (pi
 goes-requires-2 : tie.Need-goes-requires-2 Inv-loop μ-loop
 goes-requires-2 c κs = piece (c .before .before .before .before) .sent
 
-add-t59 : tie.Need-add-t59 Inv-loop μ-loop
-add-t59 c = let h = piece (c .before .before .before .before .before .before) in omega (arith, h .piece, h .most)
+add-t61 : tie.Need-add-t61 Inv-loop μ-loop
+add-t61 c = let h = piece (c .before .before .before .before .before .before) in omega (arith, h .piece, h .most)
 
-mul-t59 : tie.Need-mul-t59 Inv-loop μ-loop
-mul-t59 c = let k = known (piece-turn (c .before .before .before .before .before .before)) .row-low in omega arith
+mul-t61 : tie.Need-mul-t61 Inv-loop μ-loop
+mul-t61 c = let k = known (piece-turn (c .before .before .before .before .before .before)) .row-low in omega arith
 
 element-set-from-self-2 : tie.Need-element-set-from-self-2 Inv-loop μ-loop
 element-set-from-self-2 c = let k = known (piece-turn (c .before .before .before .before .before .before)) .row-low in omega arith
 
-mul-t59-2 : tie.Need-mul-t59-2 Inv-loop μ-loop
-mul-t59-2 c = let h = piece (c .before .before .before .before .before .before) .entry in omega arith
+mul-t61-2 : tie.Need-mul-t61-2 Inv-loop μ-loop
+mul-t61-2 c = let h = piece (c .before .before .before .before .before .before) .entry in omega arith
 
 element-set-from-self-3 : tie.Need-element-set-from-self-3 Inv-loop μ-loop
 element-set-from-self-3 c = let h = piece (c .before .before .before .before .before .before) .entry in omega arith
@@ -220,7 +220,7 @@ loop-again-3 c =
       omega (arith, i .loop-test .taken),
       omega (arith, i .before .loop .inv),
       omega (arith, i .before .loop .inv),
-      piece-chosen (known i) (e .0 .0) (e .0 .1 .0) (e .0 .1 .1 .0) (e .1) (c .before .before .before .before .before .before .before .if2 .taken) (sym (c .before .before .before .before .before .before .goes2 .ensures) ∙ c .before .before .before .before .before .if3 .taken)
+      piece-chosen (known i) (e .0 .0) (e .0 .1 .0) (e .0 .1 .1 .0) (e .1) (c .before .before .before .before .before .before .before .if2 .taken) (sym (c .before .before .before .before .before .before .goes2 .ensures) ∙ c .before .before .before .before .before .if3 .taken) (room i)
           (c .before .before .put-item2 .last .0) (num .result) (size .result) (num .ensures) (size .ensures) (c .before .before .put-item2 .ensures),
     )
 
@@ -268,7 +268,7 @@ select-spec =
     element-copy-out-row
     enum-known-kind
     goes-requires
-    mul-t46
+    mul-t47
     element-set-from-self
     mul-put-item
     put-item-requires
@@ -285,10 +285,10 @@ select-spec =
     element-copy-out-piece
     slice-len-requires
     goes-requires-2
-    add-t59
-    mul-t59
+    add-t61
+    mul-t61
     element-set-from-self-2
-    mul-t59-2
+    mul-t61-2
     element-set-from-self-3
     mul-place
     mul-place-2

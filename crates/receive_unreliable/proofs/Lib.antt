@@ -1,0 +1,9 @@
+pub mod Lists
+pub mod Queue
+pub mod Part
+pub mod Valid
+pub mod Spots
+pub mod Walk
+pub mod Gives
+pub mod Order
+pub mod Theorems
