@@ -1,0 +1,4 @@
+pub mod Say
+pub mod Refused
+pub mod Spelled
+pub mod Digest

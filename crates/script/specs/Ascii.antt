@@ -1,0 +1,10 @@
+-- Letters and texts as bytes. Assumes nothing.
+use Prim.Native.Nat.{ℕ}
+use Prim.Native.Char.{code}
+use Prim.Native.String.{String, [] as none', _∷_ as _then_}
+use mathlib.Core.List.{List, [], _∷_}
+
+-- the codes of its letters
+abbrev pub ascii : String → List ℕ
+ascii none' = []
+ascii (c then s) = code c ∷ ascii s

@@ -1,0 +1,4 @@
+pub mod Ascii
+pub mod Words
+pub mod Numbers
+pub mod Bytes
