@@ -1,0 +1,4 @@
+pub mod World
+pub mod Window
+pub mod Statements
+pub mod Example
