@@ -22,7 +22,7 @@ use Rattle.send_reliable.specs.declared.Kind.the-variants.{Small, Sliced}
 use Rattle.send_reliable.specs.declared.Row.{Row}
 use Rattle.send_reliable.specs.declared.Piece.{Piece}
 use Rattle.send_reliable.specs.declared.SendChannelReliable.{SendChannelReliable}
-use Rattle.send_reliable.specs.Sender.{newOf, noRow, noPiece, live, PlacedKind, Placed, Apart, Before, Valid}
+use Rattle.send_reliable.specs.Sender.{kindOf, asRow, newOf, noRow, noPiece, live, PlacedKind, Placed, Apart, Before, Valid}
 use Rattle.send_reliable.specs.Queue.{Spot, spotOf, addSmall, addSliced, stateAt}
 use Rattle.send_reliable.specs.Ack.{hasId, rowOf, without, marked}
 use Rattle.send_reliable.specs.Select.{visitsFrom, Chosen, select}
@@ -31,7 +31,7 @@ use Rattle.send_reliable.proofs.Valid.{rows-room, live-long}
 use Rattle.delivery.specs.World.{Part, whole, piece, ackOf}
 use Rattle.delivery.specs.Window.{In, ackedAt}
 use Rattle.delivery.proofs.Lists.{all-index, front-snoc, splice-away, splice-here, all-pair, never}
-use Rattle.delivery.proofs.Walk.{bareKind, kept-visits}
+use Rattle.delivery.proofs.Walk.{Told, bareKind, kept-visits}
 use Rattle.delivery.proofs.Sender.{cell-more, lane-more}
 use Rattle.delivery.proofs.Cases.{spot-cases, found, small-cases, piece-cases}
 
@@ -40,7 +40,7 @@ AckedKind took s id n (Small i t) = Unit
 AckedKind took s id n (Sliced l a next) = (i : ℕ) → i < piecesOf n → ackedAt s l i ≡ true → In (piece id i) took
 
 abbrev pub AckedRow : List Part → SendChannelReliable → Row → Type 0
-AckedRow took s r = AckedKind took s (r .id .0) (r .len) (r .kind)
+AckedRow took s r = AckedKind took s (r .id .0) (r .len) (kindOf r)
 
 pub record AckedIn (took : List Part) (s : SendChannelReliable) : Type 0 where
   pub rows : All (AckedRow took s) (live s)
@@ -65,7 +65,7 @@ more-kind took took′ s id n (Small i t) f h = tt
 more-kind took took′ s id n (Sliced l a next) f h = λ i low e. f (piece id i) (h i low e)
 
 pub acked-more : (took took′ : List Part) (s : SendChannelReliable) → ((p : Part) → In p took → In p took′) → AckedIn took s → AckedIn took′ s
-acked-more took took′ s f h = record { rows = all-map _ _ (λ r x. more-kind took took′ s (r .id .0) (r .len) (r .kind) f x) (live s) (h .rows) }
+acked-more took took′ s f h = record { rows = all-map _ _ (λ r x. more-kind took took′ s (r .id .0) (r .len) (kindOf r) f x) (live s) (h .rows) }
 
 -- a message is no longer than its pieces
 placed-short : (s : SendChannelReliable) → Valid s → (n : ℕ) (kd : Kind) → PlacedKind s n kd → n ≤ PIECES * SLICE_SIZE
@@ -82,11 +82,11 @@ module _ (took : List Part) (s : SendChannelReliable) (v : Valid s) (h : AckedIn
   known = all-pair (Placed s) (AckedRow took s) (live s) (v .placed) (h .rows)
 
   -- a state whose flags in the lanes of the rows are the same
-  rows-like : (s′ : SendChannelReliable) → ((r : Row) → Placed s r → SameFlags s s′ (r .kind)) → All (AckedRow took s′) (live s)
+  rows-like : (s′ : SendChannelReliable) → ((r : Row) → Placed s r → SameFlags s s′ (kindOf r)) → All (AckedRow took s′) (live s)
   unfolding Placed
   rows-like s′ f =
       all-both (Placed s) (AckedRow took s) (AckedRow took s′)
-      (λ r p x. kind-like took s s′ (r .id .0) (r .len) (r .kind) (placed-short s v (r .len) (r .kind) (p .1)) (f r p) x) (live s) (v .placed) (h .rows)
+      (λ r p x. kind-like took s s′ (r .id .0) (r .len) (kindOf r) (placed-short s v (r .len) (kindOf r) (p .1)) (f r p) x) (live s) (v .placed) (h .rows)
 
   -- ---- queueing
 
@@ -95,7 +95,7 @@ module _ (took : List Part) (s : SendChannelReliable) (v : Valid s) (h : AckedIn
   small-acked i n low free =
       record {
         rows = rw (front-snoc (s .count) (s .rows) _ (cell-more s v i low free))
-            (all-snoc _ (live s) _ (rows-like (addSmall s i n) (λ r p. same-pieces s (addSmall s i n) (r .kind) refl)) tt);
+            (all-snoc _ (live s) _ (rows-like (addSmall s i n) (λ r p. same-pieces s (addSmall s i n) (kindOf r) refl)) tt);
       }
 
   module _ (m n : ℕ) (low : m < s .settings .lanes) (free : getD (s .lanes) m false ≡ false) (most : n ≤ s .settings .pieces * SLICE_SIZE) where
@@ -122,7 +122,7 @@ module _ (took : List Part) (s : SendChannelReliable) (v : Valid s) (h : AckedIn
     lane-acked =
         record {
           rows = rw (front-snoc (s .count) (s .rows) _ (lane-more s v m low free))
-              (all-snoc _ (live s) _ (rows-like (addSliced s m n) (λ r p. other-flags (r .len) (r .kind) (p .1))) (λ i lowi e. never _ e (new-flags i lowi)));
+              (all-snoc _ (live s) _ (rows-like (addSliced s m n) (λ r p. other-flags (r .len) (kindOf r) (p .1))) (λ i lowi e. never _ e (new-flags i lowi)));
         }
 
   pub queue-acked : (n small lanes : ℕ) → AckedIn took (stateAt s n (spotOf s n small lanes))
@@ -136,10 +136,10 @@ module _ (took : List Part) (s : SendChannelReliable) (v : Valid s) (h : AckedIn
   without-acked k n cs ls low =
       record {
         rows = rw (live-closed (s .rows) k (s .count) noRow low (rows-room s v))
-            (all-without _ (live s) k (rows-like (without s k n cs ls) (λ r p. same-pieces s (without s k n cs ls) (r .kind) refl)));
+            (all-without _ (live s) k (rows-like (without s k n cs ls) (λ r p. same-pieces s (without s k n cs ls) (kindOf r) refl)));
       }
 
-  module _ (k l a next i : ℕ) (r : Row) (low : k < s .count) (er : getD (s .rows) k noRow ≡ r) (f : r .kind ≡ Sliced l a next) (lowi : i < piecesOf (r .len))
+  module _ (k l a next i : ℕ) (r : Row) (low : k < s .count) (er : getD (s .rows) k noRow ≡ r) (f : kindOf r ≡ Sliced l a next) (lowi : i < piecesOf (r .len))
       (heard : In (piece (r .id .0) i) took) where
     abbrev s′ : SendChannelReliable
     s′ = marked s k l a next i r
@@ -169,9 +169,9 @@ module _ (took : List Part) (s : SendChannelReliable) (v : Valid s) (h : AckedIn
     flip (Sliced m b c) (Small i t) p = tt
     flip (Sliced m b c) (Sliced n d e) p = λ q. p (sym q)
 
-    other-row : (x : Row) → Placed s x × AckedRow took s x → Apart (Sliced l a next) (x .kind) → AckedRow took s′ x
+    other-row : (x : Row) → Placed s x × AckedRow took s x → Apart (Sliced l a next) (kindOf x) → AckedRow took s′ x
     unfolding Placed
-    other-row x p q = kind-like took s s′ (x .id .0) (x .len) (x .kind) (placed-short s v (x .len) (x .kind) (p .0 .1)) (apart-flags (x .len) (x .kind) q) (p .1)
+    other-row x p q = kind-like took s s′ (x .id .0) (x .len) (kindOf x) (placed-short s v (x .len) (kindOf x) (p .0 .1)) (apart-flags (x .len) (kindOf x) q) (p .1)
 
     own-row : AckedKind took s′ (r .id .0) (r .len) (Sliced l (a + 1) next)
     own-row = λ j lowj e.
@@ -183,15 +183,15 @@ module _ (took : List Part) (s : SendChannelReliable) (v : Valid s) (h : AckedIn
     unfolding Before
     marked-acked =
         record {
-          rows = rw (take-set-lt (s .count) (s .rows) k (record { id = r .id; len = r .len; kind = Sliced l (a + 1) next }) low)
+          rows = rw (take-set-lt (s .count) (s .rows) k (asRow (r .id) (r .len) (Sliced l (a + 1) next)) low)
               (all-anew Before (λ (x : Row). Placed s x × AckedRow took s x) (AckedRow took s′) (live s) k noRow _ live-low (v .rising)
-              (λ x p b. other-row x p (flip (x .kind) (Sliced l a next) (at x (subst (λ (y : Row). Apart (x .kind) (y .kind)) row-is (b .1)))))
-              (λ x p b. other-row x p (subst (λ (kd : Kind). Apart kd (x .kind)) f (subst (λ (y : Row). Apart (y .kind) (x .kind)) row-is (b .1))))
+              (λ x p b. other-row x p (flip (kindOf x) (Sliced l a next) (at x (subst (λ (y : Row). Apart (kindOf x) (kindOf y)) row-is (b .1)))))
+              (λ x p b. other-row x p (subst (λ (kd : Kind). Apart kd (kindOf x)) f (subst (λ (y : Row). Apart (kindOf y) (kindOf x)) row-is (b .1))))
               own-row known);
         }
       where
-        at : (x : Row) → Apart (x .kind) (r .kind) → Apart (x .kind) (Sliced l a next)
-        at x b = subst (Apart (x .kind)) f b
+        at : (x : Row) → Apart (kindOf x) (kindOf r) → Apart (kindOf x) (Sliced l a next)
+        at x b = subst (Apart (kindOf x)) f b
 
   -- the row that is found has the id
   found-id : (x : ℕ) → rowOf s x < s .count → getD (s .rows) (rowOf s x) noRow .id .0 ≡ x
@@ -232,7 +232,7 @@ module _ (took : List Part) (s : SendChannelReliable) (v : Valid s) (h : AckedIn
             (λ k low.
             let n : k < s .count = let z = length-take (s .count) (chosen s g .rows) in omega arith in
             let x = subst (AckedRow took s) (getD-take (s .count) (s .rows) k noRow n) (all-at _ (live s) k noRow (omega arith) (h .rows)) in
-            let y = subst (λ (r : Row). AckedKind took s (r .id .0) (r .len) (r .kind)) (sym (kept .rows k)) (to-bare (getD (s .rows) k noRow .id .0) (getD (s .rows) k noRow .len) (getD (s .rows) k noRow .kind) x) in
+            let y = subst (λ (r : Told). AckedKind took s (r .id .0) (r .len) (r .kind)) (sym (kept .rows k)) (to-bare (getD (s .rows) k noRow .id .0) (getD (s .rows) k noRow .len) (kindOf (getD (s .rows) k noRow)) x) in
             rw (getD-take (s .count) (chosen s g .rows) k noRow n)
-            (from-bare (stateAfter s g) (getD (chosen s g .rows) k noRow .id .0) (getD (chosen s g .rows) k noRow .len) (getD (chosen s g .rows) k noRow .kind) (kept .acked) y));
+            (from-bare (stateAfter s g) (getD (chosen s g .rows) k noRow .id .0) (getD (chosen s g .rows) k noRow .len) (kindOf (getD (chosen s g .rows) k noRow)) (kept .acked) y));
       }

@@ -26,6 +26,7 @@ use Rattle.receive_reliable.proofs.Spots.{lane-here}
 use Rattle.send_reliable.specs.declared.Kind.{Kind}
 use Rattle.send_reliable.specs.declared.Kind.the-variants.{Small, Sliced}
 use Rattle.send_reliable.specs.declared.Row.{Row}
+use Rattle.send_reliable.specs.Sender.{kindOf}
 use Rattle.delivery.specs.World.{Bytes, Part, whole, piece, World, Setup, Accepted, new, Event, queues, rounds, arrives, looks, takes, hears, givenNow, goes, spotNow, queueing, sending, partNow, outAt, taking, hearing, step, run}
 use Rattle.delivery.specs.Window.{In, here, there, ackedAt, unacknowledged, sentIn, ackedIn}
 use Rattle.delivery.specs.Statements.{after, Oldest, Enough, Arrived, Delivered, Arrival}
@@ -204,7 +205,7 @@ module _ (u : Setup) (a : Accepted u) (past window later : List Event) (r : Row)
       at (inl h) = in-logs p (arrived p h)
       at (inr h) = in-logs p (inl (run-took later w₁ p (acked-took window w p h)))
 
-  held : (kd : Kind) → r .kind ≡ kd → HeldId (w₂ .receiver .state) (r .id .0)
+  held : (kd : Kind) → kindOf r ≡ kd → HeldId (w₂ .receiver .state) (r .id .0)
   held (Small i t) e = served (whole (r .id .0)) (rw e (here refl))
   held (Sliced l b next) e =
       let long : SLICE_SIZE < r .len = subst (KindFits (w .sender .state .settings) (r .len)) e (row-has .fits) .1 in
@@ -218,7 +219,7 @@ module _ (u : Setup) (a : Accepted u) (past window later : List Event) (r : Row)
       (λ t. served (piece (r .id .0) j) (rw e (in-map (piece (r .id .0)) (in-open (ackedAt (w .sender .state) l) 0 (piecesOf (r .len)) j (omega arith) (omega arith) t)))))
 
   comes : Delivered (r .id .0) w₂
-  comes = delivered w₂ good₂ (r .id .0) (row-has .msg) queued₂ (held (r .kind) refl)
+  comes = delivered w₂ good₂ (r .id .0) (row-has .msg) queued₂ (held (kindOf r) refl)
 
 pub arrival : Arrival
 arrival u a past window later r o enough arrived = comes u a past window later r o enough arrived

@@ -14,7 +14,7 @@ use Rattle.send_reliable.specs.declared.Kind.{Kind}
 use Rattle.send_reliable.specs.declared.Kind.the-variants.{Small, Sliced}
 use Rattle.send_reliable.specs.declared.Row.{Row}
 use Rattle.send_reliable.specs.declared.SendChannelReliable.{SendChannelReliable}
-use Rattle.send_reliable.specs.Sender.{noRow, pieceAt, Valid}
+use Rattle.send_reliable.specs.Sender.{kindOf, noRow, pieceAt, Valid}
 use Rattle.send_reliable.specs.Queue.{Spot, cell, lane, refused, spotOf}
 use Rattle.send_reliable.specs.Ack.{rowOf, without, After, ackRow, smallKind, ackSmall, marked, withAck, pieceKind, ackPiece}
 use Rattle.send_reliable.proofs.Valid.{CellFree, LaneFree}
@@ -42,7 +42,7 @@ found s x = getD (s .rows) (rowOf s x) noRow
 -- piece i of it, which is sliced, was not acknowledged before
 pub record NewAck (s : SendChannelReliable) (x i l a next : ℕ) : Type 0 where
   pub low : rowOf s x < s .count
-  pub kind : found s x .kind ≡ Sliced l a next
+  pub kind : kindOf (found s x) ≡ Sliced l a next
   pub index : i < piecesOf (found s x .len)
   pub fresh : pieceAt s l i .acked ≡ false
 
@@ -55,12 +55,12 @@ module _ (s : SendChannelReliable) (x : ℕ) (P : SendChannelReliable → Type 0
 
   -- a small message is gone
   pub small-cases :
-      ((i : ℕ) (t : Sending) → rowOf s x < s .count → found s x .kind ≡ Small i t → P (without s (rowOf s x) (found s x .len) (set (s .cells) i false) (s .lanes)))
+      ((i : ℕ) (t : Sending) → rowOf s x < s .count → kindOf (found s x) ≡ Small i t → P (without s (rowOf s x) (found s x .len) (set (s .cells) i false) (s .lanes)))
       → P (ackSmall s x .state)
   unfolding ackSmall
-  small-cases gone = row-cases (λ k r. smallKind s k r (r .kind)) (λ low. at low (found s x .kind) refl)
+  small-cases gone = row-cases (λ k r. smallKind s k r (kindOf r)) (λ low. at low (kindOf (found s x)) refl)
     where
-      at : rowOf s x < s .count → (kd : Kind) → found s x .kind ≡ kd → P (smallKind s (rowOf s x) (found s x) kd .state)
+      at : rowOf s x < s .count → (kd : Kind) → kindOf (found s x) ≡ kd → P (smallKind s (rowOf s x) (found s x) kd .state)
       at low (Small i t) e = gone i t low e
       at low (Sliced l a next) e = stays
 
@@ -70,9 +70,9 @@ module _ (s : SendChannelReliable) (x : ℕ) (P : SendChannelReliable → Type 0
       (marks : (l a next : ℕ) → NewAck s x i l a next → (a + 1 ≡ piecesOf (found s x .len) → ⊥) → P (marked s (rowOf s x) l a next i (found s x))) where
     pub piece-cases : P (ackPiece s x i .state)
     unfolding ackPiece withAck
-    piece-cases = row-cases (λ k r. pieceKind s k i r (r .kind)) (λ low. at low (found s x .kind) refl)
+    piece-cases = row-cases (λ k r. pieceKind s k i r (kindOf r)) (λ low. at low (kindOf (found s x)) refl)
       where
-        at : rowOf s x < s .count → (kd : Kind) → found s x .kind ≡ kd → P (pieceKind s (rowOf s x) i (found s x) kd .state)
+        at : rowOf s x < s .count → (kd : Kind) → kindOf (found s x) ≡ kd → P (pieceKind s (rowOf s x) i (found s x) kd .state)
         at low (Small j t) e = stays
         at low (Sliced l a next) e =
             pick-cases (λ (z : After). P (z .state)) (leb (piecesOf (found s x .len)) i) (λ _. stays)

@@ -22,7 +22,7 @@ use Rattle.send_reliable.specs.declared.Kind.the-variants.{Small, Sliced}
 use Rattle.send_reliable.specs.declared.Row.{Row}
 use Rattle.send_reliable.specs.declared.Piece.{Piece}
 use Rattle.send_reliable.specs.declared.SendChannelReliable.{SendChannelReliable}
-use Rattle.send_reliable.specs.Sender.{noRow, noPiece, live, pieceAt, ackedPieces, PlacedKind, Valid}
+use Rattle.send_reliable.specs.Sender.{kindOf, asRow, noRow, noPiece, live, pieceAt, ackedPieces, PlacedKind, Valid}
 use Rattle.send_reliable.specs.Queue.{Spot, spotOf, addSmall, addSliced, stateAt}
 use Rattle.send_reliable.specs.Ack.{hasId, rowOf, closed, without, ackSmall, marked, ackPiece}
 use Rattle.send_reliable.proofs.Valid.{rows-room}
@@ -113,7 +113,7 @@ module _ (s : SendChannelReliable) (v : Valid s) (r : Row) (rs : List Row) (h : 
   unfolding addSmall
   small-queued i n =
       let f = set-behind (s .count + 1) (s .count) _ (omega arith) (omega (arith, first-row .0)) in
-      record { rest = f .0; head = f .1; queue = queue-pieces s (addSmall s i n) (r .len) (r .kind) refl }
+      record { rest = f .0; head = f .1; queue = queue-pieces s (addSmall s i n) (r .len) (kindOf r) refl }
 
   -- the pieces of another lane
   sliced-flags : (m n : ℕ) (kd : Kind) → PlacedKind s (r .len) kd → getD (s .lanes) m false ≡ false → n ≤ s .settings .pieces * SLICE_SIZE
@@ -132,7 +132,7 @@ module _ (s : SendChannelReliable) (v : Valid s) (r : Row) (rs : List Row) (h : 
   unfolding addSliced
   sliced-queued m n free most =
       let f = set-behind (s .count + 1) (s .count) _ (omega arith) (omega (arith, first-row .0)) in
-      record { rest = f .0; head = f .1; queue = sliced-flags m n (r .kind) (head-placed s v r rs h) free most }
+      record { rest = f .0; head = f .1; queue = sliced-flags m n (kindOf r) (head-placed s v r rs h) free most }
 
   pub queue-stays : (n small lanes : ℕ) → Stays s (stateAt s n (spotOf s n small lanes)) r
   queue-stays n small lanes =
@@ -157,7 +157,7 @@ module _ (s : SendChannelReliable) (v : Valid s) (r : Row) (rs : List Row) (h : 
   without-behind : (k n : ℕ) (cs ls : List Bool) → suc k < s .count → Stays s (without s (suc k) n cs ls) r
   without-behind k n cs ls low =
       let f = at (s .rows) (first-row .1) (first-row .2) in
-      record { rest = f .0; head = f .1; queue = queue-pieces s (without s (suc k) n cs ls) (r .len) (r .kind) refl }
+      record { rest = f .0; head = f .1; queue = queue-pieces s (without s (suc k) n cs ls) (r .len) (kindOf r) refl }
     where
       at : (rows : List Row) → 1 ≤ length rows → getD rows 0 noRow ≡ r → (rest : List Row) × (take (s .count - 1) (closed rows (suc k) (s .count)) ≡ r ∷ rest)
       at [] l e = absurd (omega arith)
@@ -167,7 +167,7 @@ module _ (s : SendChannelReliable) (v : Valid s) (r : Row) (rs : List Row) (h : 
           let f = head-front (s .count - 1) p noRow (omega arith) (omega arith) in
           (f .0, take-set-le (s .count - 1) p (s .count - 1) noRow (omega arith) ∙ f .1 ∙ ap (λ (y : Row). y ∷ f .0) e)
 
-  small-at : (x y k n i : ℕ) (t : Sending) → rowOf s x ≡ k → k < s .count → (k ≡ 0 → r .kind ≡ Small i t)
+  small-at : (x y k n i : ℕ) (t : Sending) → rowOf s x ≡ k → k < s .count → (k ≡ 0 → kindOf r ≡ Small i t)
       → Heard (without s k n (set (s .cells) i false) (s .lanes)) (whole x) y
   small-at x y zero n i t e low q = inl (ap whole (sym (found-first x e)) ∙ ap (λ (kd : Kind). partKind (r .id .0) kd y) (sym (q refl)))
   small-at x y (suc k) n i t e low q = inr (inl (without-behind k n _ _ low))
@@ -179,7 +179,7 @@ module _ (s : SendChannelReliable) (v : Valid s) (r : Row) (rs : List Row) (h : 
   pub small-heard : (x y : ℕ) → Heard (ackSmall s x .state) (whole x) y
   small-heard x y =
       small-cases s x (λ (p : SendChannelReliable). Heard p (whole x) y) (inr (inl same-state))
-      (λ i t low e. small-at x y (rowOf s x) (found s x .len) i t refl low (λ z. ap (λ (row : Row). row .kind) (sym (is-first x z)) ∙ e))
+      (λ i t low e. small-at x y (rowOf s x) (found s x .len) i t refl low (λ z. ap (λ (row : Row). kindOf row) (sym (is-first x z)) ∙ e))
 
   -- the rows behind, by their places
   at-behind : (k : ℕ) → suc k < s .count → (k < length rs) × (getD rs k noRow ≡ getD (s .rows) (suc k) noRow)
@@ -189,7 +189,7 @@ module _ (s : SendChannelReliable) (v : Valid s) (r : Row) (rs : List Row) (h : 
   )
 
   -- a piece of another message is acknowledged
-  behind-flags : (k i m b c : ℕ) (kd : Kind) → r .kind ≡ kd → suc k < s .count → getD (s .rows) (suc k) noRow .kind ≡ Sliced m b c
+  behind-flags : (k i m b c : ℕ) (kd : Kind) → kindOf r ≡ kd → suc k < s .count → kindOf (getD (s .rows) (suc k) noRow) ≡ Sliced m b c
       → i < piecesOf (getD (s .rows) (suc k) noRow .len) → PlacedKind s (r .len) kd → (q : Piece)
       → (s′ : SendChannelReliable) → s′ .pieces ≡ set (s .pieces) (m * PIECES + i) q → queueKind s′ (r .len) kd ≡ queueKind s (r .len) kd
   behind-flags k i m b c (Small j t) e low g less p q s′ ps = refl
@@ -197,24 +197,24 @@ module _ (s : SendChannelReliable) (v : Valid s) (r : Row) (rs : List Row) (h : 
       let w = at-behind k low in
       let o : Other l (getD (s .rows) (suc k) noRow .len) (Sliced m b c)
       = subst (Other l (getD (s .rows) (suc k) noRow .len)) g
-      (subst (λ (x : Row). Other l (x .len) (x .kind)) (w .1) (all-at (λ (x : Row). Other l (x .len) (x .kind)) rs k noRow (w .0) (others-apart s v r rs h l a next e))) in
+      (subst (λ (x : Row). Other l (x .len) (kindOf x)) (w .1) (all-at (λ (x : Row). Other l (x .len) (kindOf x)) rs k noRow (w .0) (others-apart s v r rs h l a next e))) in
       queue-same (ackedAt s′ l) (ackedAt s l) next (piecesOf (r .len)) (p .6)
       (λ j below. ap (λ (ys : List Piece). getD ys (l * PIECES + j) noPiece .acked) ps
       ∙ ap (λ (x : Piece). x .acked) (getD-set-other (s .pieces) (m * PIECES + i) (l * PIECES + j) q noPiece
       (λ z. o .0 (omega (arith, o .2, less, below, p .3, v .settings .pieces-most)))))
 
-  marked-behind : (k i m b c : ℕ) (row : Row) → suc k < s .count → getD (s .rows) (suc k) noRow ≡ row → row .kind ≡ Sliced m b c → i < piecesOf (row .len)
+  marked-behind : (k i m b c : ℕ) (row : Row) → suc k < s .count → getD (s .rows) (suc k) noRow ≡ row → kindOf row ≡ Sliced m b c → i < piecesOf (row .len)
       → Stays s (marked s (suc k) m b c i row) r
   marked-behind k i m b c row low e f less =
-      let x = set-behind (s .count) (suc k) (record { id = row .id; len = row .len; kind = Sliced m (b + 1) c }) (first-row .0) (omega arith) in
+      let x = set-behind (s .count) (suc k) (asRow (row .id) (row .len) (Sliced m (b + 1) c)) (first-row .0) (omega arith) in
       record {
         rest = x .0;
         head = x .1;
-        queue = behind-flags k i m b c (r .kind) refl low (ap (λ (z : Row). z .kind) e ∙ f) (rw e less) (head-placed s v r rs h) _ (marked s (suc k) m b c i row) refl;
+        queue = behind-flags k i m b c (kindOf r) refl low (ap (λ (z : Row). kindOf z) e ∙ f) (rw e less) (head-placed s v r rs h) _ (marked s (suc k) m b c i row) refl;
       }
 
   -- a piece of the first message
-  module _ (l a next i y : ℕ) (e : r .kind ≡ Sliced l a next) (low : i < piecesOf (r .len)) (free : pieceAt s l i .acked ≡ false) where
+  module _ (l a next i y : ℕ) (e : kindOf r ≡ Sliced l a next) (low : i < piecesOf (r .len)) (free : pieceAt s l i .acked ≡ false) where
     here-placed : PlacedKind s (r .len) (Sliced l a next)
     here-placed = subst (PlacedKind s (r .len)) e (head-placed s v r rs h)
 
@@ -233,9 +233,9 @@ module _ (s : SendChannelReliable) (v : Valid s) (r : Row) (rs : List Row) (h : 
 
     marked-first : (x : ℕ) → r .id .0 ≡ x → Loses s (marked s 0 l a next i r) r (piece x i)
     marked-first x q =
-        let f = head-front (s .count) (set (s .rows) 0 (record { id = r .id; len = r .len; kind = Sliced l (a + 1) next })) noRow (first-row .0) (rw length-set (first-row .1)) in
+        let f = head-front (s .count) (set (s .rows) 0 (asRow (r .id) (r .len) (Sliced l (a + 1) next))) noRow (first-row .0) (rw length-set (first-row .1)) in
         record {
-          row = record { id = r .id; len = r .len; kind = Sliced l (a + 1) next };
+          row = asRow (r .id) (r .len) (Sliced l (a + 1) next);
           rest = f .0;
           head = f .1 ∙ ap (λ (z : Row). z ∷ f .0) (getD-set-same (s .rows) 0 _ noRow (first-row .1));
           named = λ j. ap (λ (kd : Kind). partKind (r .id .0) kd j) (sym e);
@@ -254,8 +254,8 @@ module _ (s : SendChannelReliable) (v : Valid s) (r : Row) (rs : List Row) (h : 
 
   module _ (x i y l a next : ℕ) (c : NewAck s x i l a next) where
     -- where its row is the first
-    first-kind : rowOf s x ≡ 0 → r .kind ≡ Sliced l a next
-    first-kind e = ap (λ (row : Row). row .kind) (sym (is-first x e)) ∙ c .kind
+    first-kind : rowOf s x ≡ 0 → kindOf r ≡ Sliced l a next
+    first-kind e = ap (λ (row : Row). kindOf row) (sym (is-first x e)) ∙ c .kind
 
     first-len : rowOf s x ≡ 0 → found s x .len ≡ r .len
     first-len e = ap (λ (row : Row). row .len) (is-first x e)

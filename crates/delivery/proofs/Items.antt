@@ -25,11 +25,11 @@ use Rattle.send_reliable.specs.declared.Kind.{Kind}
 use Rattle.send_reliable.specs.declared.Kind.the-variants.{Small, Sliced}
 use Rattle.send_reliable.specs.declared.Row.{Row}
 use Rattle.send_reliable.specs.declared.SendChannelReliable.{SendChannelReliable}
-use Rattle.send_reliable.specs.Sender.{noRow, noPiece, live, PlacedKind, Placed, Valid}
+use Rattle.send_reliable.specs.Sender.{lastSent, kindOf, noRow, noPiece, live, PlacedKind, Placed, Valid}
 use Rattle.send_reliable.specs.Select.{Visit, upFrom, rowVisits, visitsFrom, due, Chosen, visitKind, visit, select}
 use Rattle.send_reliable.specs.Round.{Given, chosen}
 use Rattle.delivery.specs.World.{Bytes}
-use Rattle.delivery.proofs.Walk.{bareKind, bare, kept-visit, up-low}
+use Rattle.delivery.proofs.Walk.{Told, bareKind, bare, kept-visit, up-low}
 use Rattle.delivery.proofs.Receiver.{Queued, PieceOf}
 use Rattle.delivery.proofs.Stored.{placeOf, storeOf, KindFits, RowHas, SenderHas, has-like, row-has}
 use Rattle.send_reliable.proofs.Valid.{live-long}
@@ -88,10 +88,10 @@ bare-low n (Small j t) i h = tt
 bare-low n (Sliced l a next) i h = h
 
 -- among the first N rows, which are R without their sendings
-abbrev pub Visits : (ℕ → Row) → ℕ → Visit → Type 0
+abbrev pub Visits : (ℕ → Told) → ℕ → Visit → Type 0
 Visits R n v = (v .row < n) × LowKind (R (v .row) .len) (R (v .row) .kind) (v .piece)
 
-module _ (s : SendChannelReliable) (R : ℕ → Row) (N : ℕ) where
+module _ (s : SendChannelReliable) (R : ℕ → Told) (N : ℕ) where
   row-low : (k n : ℕ) (kd : Kind) → k < N → R k .len ≡ n → R k .kind ≡ bareKind kd → PlacedKind s n kd → All (Visits R N) (rowVisits k n kd)
   row-low k n (Small j t) low el ek p =
       all-map _ (Visits R N) (λ v h. (omega (arith, h .0), subst (λ (m : ℕ). LowKind (R m .len) (R m .kind) (v .piece)) (sym (h .0)) (subst (λ (kd : Kind). LowKind (R k .len) kd (v .piece)) (sym ek) tt)))
@@ -110,8 +110,8 @@ module _ (s : SendChannelReliable) (R : ℕ → Row) (N : ℕ) where
   rows-low k (r ∷ rs) h e p =
       let z : k + 0 ≡ k = omega arith in
       let x = rw z at (e 0 (omega arith)) in
-      all-append (Visits R N) (rowVisits k (r .len) (r .kind)) (visitsFrom (k + 1) rs)
-      (row-low k (r .len) (r .kind) (omega arith) (ap (λ (y : Row). y .len) x) (ap (λ (y : Row). y .kind) x) (p .0 .1))
+      all-append (Visits R N) (rowVisits k (r .len) (kindOf r)) (visitsFrom (k + 1) rs)
+      (row-low k (r .len) (kindOf r) (omega arith) (ap (λ (y : Told). y .len) x) (ap (λ (y : Told). y .kind) x) (p .0 .1))
       (rows-low (k + 1) rs (omega arith) (λ j l. let y : k + 1 + j ≡ k + suc j = omega arith in rw y (e (suc j) (omega arith))) (p .1))
 
 -- ---- what is chosen
@@ -121,11 +121,11 @@ module _ (q : List Bytes) (s : SendChannelReliable) (small lanes : Bytes) (v : V
   abbrev Has : Item → Type 0
   Has = ItemHas q small lanes
 
-  kind-items : (c : Chosen) (k i : ℕ) (r : Row) (kd : Kind) → r .kind ≡ kd → RowHas q (s .settings) small lanes r → LowKind (r .len) kd i → All Has (c .items)
+  kind-items : (c : Chosen) (k i : ℕ) (r : Row) (kd : Kind) → kindOf r ≡ kd → RowHas q (s .settings) small lanes r → LowKind (r .len) kd i → All Has (c .items)
       → All Has (visitKind (s .settings) (s .«resend_time») (g .now) c k i r kd .items)
   kind-items c k i r (Small j t) e x low a =
       pick-cases (λ (y : Chosen). All Has (y .items)) (ltb (c .left) (r .len)) (λ _. a)
-      (λ _. pick-cases (λ (y : Chosen). All Has (y .items)) (due (s .«resend_time») (g .now) (t .«last_sent»))
+      (λ _. pick-cases (λ (y : Chosen). All Has (y .items)) (due (s .«resend_time») (g .now) (lastSent t))
       (λ _.
       let f : KindFits (s .settings) (r .len) (Small j t) = subst (KindFits (s .settings) (r .len)) e (x .fits) in
       let b : take (r .len) (drop (j * SLICE_SIZE) small) ≡ x .msg = subst (λ (y : Kind). take (r .len) (drop (placeOf (s .settings) y) (storeOf y small lanes)) ≡ x .msg) e (x .bytes) in
@@ -134,7 +134,7 @@ module _ (q : List Bytes) (s : SendChannelReliable) (small lanes : Bytes) (v : V
   kind-items c k i r (Sliced l b next) e x low a =
       pick-cases (λ (y : Chosen). All Has (y .items)) (ltb (c .left) SLICE_SIZE) (λ _. a)
       (λ _. pick-cases (λ (y : Chosen). All Has (y .items)) (getD (c .pieces) (l * PIECES + i) noPiece .acked) (λ _. a)
-      (λ _. pick-cases (λ (y : Chosen). All Has (y .items)) (due (s .«resend_time») (g .now) (getD (c .pieces) (l * PIECES + i) noPiece .sending .«last_sent»))
+      (λ _. pick-cases (λ (y : Chosen). All Has (y .items)) (due (s .«resend_time») (g .now) (lastSent (getD (c .pieces) (l * PIECES + i) noPiece .sending)))
       (λ _.
       let f : KindFits (s .settings) (r .len) (Sliced l b next) = subst (KindFits (s .settings) (r .len)) e (x .fits) in
       let d : take (r .len) (drop (l * laneLen (s .settings)) lanes) ≡ x .msg = subst (λ (y : Kind). take (r .len) (drop (placeOf (s .settings) y) (storeOf y small lanes)) ≡ x .msg) e (x .bytes) in
@@ -159,16 +159,16 @@ module _ (q : List Bytes) (s : SendChannelReliable) (small lanes : Bytes) (v : V
       })))
       (λ _. a)))
 
-  abbrev R : ℕ → Row
+  abbrev R : ℕ → Told
   R k = bare (getD (s .rows) k noRow)
 
   visit-items : (c : Chosen) (k i : ℕ) → k < s .count → bare (getD (c .rows) k noRow) ≡ R k → LowKind (R k .len) (R k .kind) i → All Has (c .items)
       → All Has (visit (s .settings) (s .«resend_time») (g .now) c (record { row = k; piece = i }) .items)
   unfolding visit
   visit-items c k i low e lk a =
-      kind-items c k i (getD (c .rows) k noRow) (getD (c .rows) k noRow .kind) refl
+      kind-items c k i (getD (c .rows) k noRow) (kindOf (getD (c .rows) k noRow)) refl
       (has-like q (s .settings) small lanes (getD (s .rows) k noRow) (getD (c .rows) k noRow) (sym e) (row-has q s small lanes v h g k low))
-      (bare-low (getD (c .rows) k noRow .len) (getD (c .rows) k noRow .kind) i (subst (λ (y : Row). LowKind (y .len) (y .kind) i) (sym e) lk)) a
+      (bare-low (getD (c .rows) k noRow .len) (kindOf (getD (c .rows) k noRow)) i (subst (λ (y : Told). LowKind (y .len) (y .kind) i) (sym e) lk)) a
 
   visits-items : (vs : List Visit) (c : Chosen) → ((k : ℕ) → bare (getD (c .rows) k noRow) ≡ R k) → All (Visits R (s .count)) vs → All Has (c .items)
       → All Has (reached (visit (s .settings) (s .«resend_time») (g .now)) c vs .items)

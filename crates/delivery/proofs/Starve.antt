@@ -15,7 +15,7 @@ use Rattle.send_reliable.specs.declared.Kind.{Kind}
 use Rattle.send_reliable.specs.declared.Kind.the-variants.{Small, Sliced}
 use Rattle.send_reliable.specs.declared.Row.{Row}
 use Rattle.send_reliable.specs.declared.SendChannelReliable.{SendChannelReliable}
-use Rattle.send_reliable.specs.Sender.{live, PlacedKind}
+use Rattle.send_reliable.specs.Sender.{kindOf, live, PlacedKind}
 use Rattle.send_reliable.specs.Round.{Given, packs, stateAfter}
 use Rattle.delivery.specs.World.{Bytes, Part, whole, piece, World, new, Event, queues, rounds, arrives, looks, takes, hears, givenNow, goes, written, queueing, sending, arriving, taking, hearing, ackOf, step}
 use Rattle.delivery.specs.Window.{In, here, there, openFrom, ackedAt, openOf, sentBy, sentNow, sentIn, ackedNow, ackedIn, roundNow, roundsIn, Spaced, SteadyNow, Steady}
@@ -243,7 +243,7 @@ pub not-starved : NoStarvation
 not-starved u a past window r o e p i =
     let w = after u past in
     let good = run-good past (new u) (new-good u a) in
-    let q = waits-kind (w .sender .state) r (r .kind) (head-placed (w .sender .state) (good .sender .valid) r (o .0) (o .1)) p i in
+    let q = waits-kind (w .sender .state) r (kindOf r) (head-placed (w .sender .state) (good .sender .valid) r (o .0) (o .1)) p i in
     track p window w good (e .steady)
     (record {
       row = r;

@@ -23,7 +23,7 @@ use Rattle.send_reliable.specs.declared.Kind.{Kind}
 use Rattle.send_reliable.specs.declared.Kind.the-variants.{Small, Sliced}
 use Rattle.send_reliable.specs.declared.Row.{Row}
 use Rattle.send_reliable.specs.declared.SendChannelReliable.{SendChannelReliable}
-use Rattle.send_reliable.specs.Sender.{newOf, noRow, live, PlacedKind, Placed, Valid}
+use Rattle.send_reliable.specs.Sender.{kindOf, asRow, newOf, noRow, live, PlacedKind, Placed, Valid}
 use Rattle.send_reliable.specs.Queue.{Spot, spotOf, addSmall, addSliced, stateAt, smallAt, lanesAt}
 use Rattle.send_reliable.specs.Ack.{rowOf, without, marked}
 use Rattle.send_reliable.specs.Select.{visitsFrom, Chosen, select}
@@ -31,7 +31,7 @@ use Rattle.send_reliable.specs.Round.{Given, chosen, stateAfter}
 use Rattle.send_reliable.proofs.Valid.{rows-room, live-long, CellFree, LaneFree}
 use Rattle.delivery.specs.World.{Bytes, Part, whole, piece, queuedAt, ackOf}
 use Rattle.delivery.proofs.Lists.{at-more, at-last, all-index, never, places-apart, front-snoc}
-use Rattle.delivery.proofs.Walk.{bareKind, bare, Kept, kept-visits}
+use Rattle.delivery.proofs.Walk.{Told, told, bareKind, bare, Kept, kept-visits}
 use Rattle.delivery.proofs.Receiver.{Queued}
 use Rattle.delivery.proofs.Sender.{cell-more, lane-more}
 use Rattle.delivery.proofs.Cases.{spot-cases, found, small-cases, piece-cases}
@@ -50,13 +50,16 @@ abbrev pub KindFits : Settings → ℕ → Kind → Type 0
 KindFits st n (Small i t) = (i < st .slots) × (n ≤ SLICE_SIZE)
 KindFits st n (Sliced l a next) = (l < st .lanes) × (SLICE_SIZE < n) × (n ≤ laneLen st)
 
-pub record RowHas (q : List Bytes) (st : Settings) (small lanes : Bytes) (r : Row) : Type 0 where
+pub record ToldHas (q : List Bytes) (st : Settings) (small lanes : Bytes) (r : Told) : Type 0 where
   pub msg : Bytes
   pub queued : Queued q (r .id .0) msg
   pub len-is : r .len ≡ length msg
   pub bytes : take (r .len) (drop (placeOf st (r .kind)) (storeOf (r .kind) small lanes)) ≡ msg
   pub fits : KindFits st (r .len) (r .kind)
   pub below : r .id .0 < LIMIT
+
+abbrev pub RowHas : List Bytes → Settings → Bytes → Bytes → Row → Type 0
+RowHas q st small lanes r = ToldHas q st small lanes (told r)
 
 pub record SenderHas (q : List Bytes) (s : SendChannelReliable) (small lanes : Bytes) : Type 0 where
   pub channel : s .«channel_id» < 256
@@ -66,8 +69,8 @@ pub record SenderHas (q : List Bytes) (s : SendChannelReliable) (small lanes : B
 -- ---- sendings do not matter
 
 module _ (q : List Bytes) (st : Settings) (small lanes : Bytes) where
-  abbrev Has : Row → Type 0
-  Has = RowHas q st small lanes
+  abbrev Has : Told → Type 0
+  Has = ToldHas q st small lanes
 
   to-bare : (id : MessageId) (n : ℕ) (kd : Kind) → Has (record { id = id; len = n; kind = kd }) → Has (record { id = id; len = n; kind = bareKind kd })
   to-bare id n (Small i t) h = record { msg = h .msg; queued = h .queued; len-is = h .len-is; bytes = h .bytes; fits = h .fits; below = h .below }
@@ -77,8 +80,8 @@ module _ (q : List Bytes) (st : Settings) (small lanes : Bytes) where
   from-bare id n (Small i t) h = record { msg = h .msg; queued = h .queued; len-is = h .len-is; bytes = h .bytes; fits = h .fits; below = h .below }
   from-bare id n (Sliced l a next) h = record { msg = h .msg; queued = h .queued; len-is = h .len-is; bytes = h .bytes; fits = h .fits; below = h .below }
 
-  pub has-like : (r r′ : Row) → bare r ≡ bare r′ → Has r → Has r′
-  has-like r r′ e h = from-bare (r′ .id) (r′ .len) (r′ .kind) (subst Has e (to-bare (r .id) (r .len) (r .kind) h))
+  pub has-like : (r r′ : Row) → bare r ≡ bare r′ → Has (told r) → Has (told r′)
+  has-like r r′ e h = from-bare (r′ .id) (r′ .len) (kindOf r′) (subst Has e (to-bare (r .id) (r .len) (kindOf r) h))
 
 pub has-new : (channel : ℕ) (st : Settings) (resend : ℕ) (small lanes : Bytes) → channel < 256 → SenderHas [] (newOf channel st resend) small lanes
 unfolding newOf All
@@ -103,8 +106,8 @@ module _ (q : List Bytes) (s : SendChannelReliable) (small lanes : Bytes) (v : V
       abbrev small′ : Bytes
       small′ = splice (i * SLICE_SIZE) msg small
 
-      cell-kind : (id : MessageId) (n : ℕ) (kd : Kind) → PlacedKind s n kd → RowHas q (s .settings) small lanes (record { id = id; len = n; kind = kd })
-          → RowHas q′ (s .settings) small′ lanes (record { id = id; len = n; kind = kd })
+      cell-kind : (id : MessageId) (n : ℕ) (kd : Kind) → PlacedKind s n kd → ToldHas q (s .settings) small lanes (record { id = id; len = n; kind = kd })
+          → ToldHas q′ (s .settings) small′ lanes (record { id = id; len = n; kind = kd })
       cell-kind id n (Sliced l a next) p x = record { msg = x .msg; queued = at-more q (msg ∷ []) _ (x .queued); len-is = x .len-is; bytes = x .bytes; fits = x .fits; below = x .below }
       cell-kind id n (Small j t) p x =
           let ne : j ≡ i → ⊥ = λ e. never _ (p .1) (ap (λ (k : ℕ). getD (s .cells) k false) e ∙ c .free) in
@@ -130,7 +133,7 @@ module _ (q : List Bytes) (s : SendChannelReliable) (small lanes : Bytes) (v : V
             next = next-more;
             rows =
                 rw (front-snoc (s .count) (s .rows) _ (cell-more s v i (c .low) (c .free)))
-                (all-snoc _ (live s) _ (all-both (Placed s) _ _ (λ x p r. cell-kind (x .id) (x .len) (x .kind) (p .1) r) (live s) (v .placed) (h .rows))
+                (all-snoc _ (live s) _ (all-both (Placed s) _ _ (λ x p r. cell-kind (x .id) (x .len) (kindOf x) (p .1) r) (live s) (v .placed) (h .rows))
                 (record { msg = msg; queued = here-queued; len-is = refl; bytes = part-here (i * SLICE_SIZE) msg small fits; fits = (c .low, c .short); below = c .ids }));
           }
 
@@ -139,8 +142,8 @@ module _ (q : List Bytes) (s : SendChannelReliable) (small lanes : Bytes) (v : V
       abbrev lanes′ : Bytes
       lanes′ = splice (l * laneLen (s .settings)) msg lanes
 
-      lane-kind : (id : MessageId) (n : ℕ) (kd : Kind) → PlacedKind s n kd → RowHas q (s .settings) small lanes (record { id = id; len = n; kind = kd })
-          → RowHas q′ (s .settings) small lanes′ (record { id = id; len = n; kind = kd })
+      lane-kind : (id : MessageId) (n : ℕ) (kd : Kind) → PlacedKind s n kd → ToldHas q (s .settings) small lanes (record { id = id; len = n; kind = kd })
+          → ToldHas q′ (s .settings) small lanes′ (record { id = id; len = n; kind = kd })
       lane-kind id n (Small j t) p x = record { msg = x .msg; queued = at-more q (msg ∷ []) _ (x .queued); len-is = x .len-is; bytes = x .bytes; fits = x .fits; below = x .below }
       lane-kind id n (Sliced m a next) p x =
           let ne : m ≡ l → ⊥ = λ e. never _ (p .1) (ap (λ (k : ℕ). getD (s .lanes) k false) e ∙ c .free) in
@@ -167,7 +170,7 @@ module _ (q : List Bytes) (s : SendChannelReliable) (small lanes : Bytes) (v : V
             next = next-more;
             rows =
                 rw (front-snoc (s .count) (s .rows) _ (lane-more s v l (c .low) (c .free)))
-                (all-snoc _ (live s) _ (all-both (Placed s) _ _ (λ x p r. lane-kind (x .id) (x .len) (x .kind) (p .1) r) (live s) (v .placed) (h .rows))
+                (all-snoc _ (live s) _ (all-both (Placed s) _ _ (λ x p r. lane-kind (x .id) (x .len) (kindOf x) (p .1) r) (live s) (v .placed) (h .rows))
                 (record { msg = msg; queued = here-queued; len-is = refl; bytes = part-here (l * laneLen (s .settings)) msg lanes fits; fits = (c .low, c .long, c .limit); below = c .ids }));
           }
 
@@ -186,7 +189,7 @@ module _ (q : List Bytes) (s : SendChannelReliable) (small lanes : Bytes) (v : V
   without-has k n cs ls low =
       record { channel = h .channel; next = h .next; rows = rw (live-closed (s .rows) k (s .count) noRow low (rows-room s v)) (all-without _ (live s) k (h .rows)) }
 
-  marked-has : (k l a next i : ℕ) (r : Row) → k < s .count → getD (s .rows) k noRow ≡ r → r .kind ≡ Sliced l a next → After-ack (marked s k l a next i r)
+  marked-has : (k l a next i : ℕ) (r : Row) → k < s .count → getD (s .rows) k noRow ≡ r → kindOf r ≡ Sliced l a next → After-ack (marked s k l a next i r)
   marked-has k l a next i r low e f =
       let n = live-long s v in
       let x : RowHas q (s .settings) small lanes r
@@ -194,14 +197,14 @@ module _ (q : List Bytes) (s : SendChannelReliable) (small lanes : Bytes) (v : V
       record {
         channel = h .channel;
         next = h .next;
-        rows = rw (take-set-lt (s .count) (s .rows) k (record { id = r .id; len = r .len; kind = Sliced l (a + 1) next }) low)
-            (all-set _ (live s) k _ (h .rows) (again (r .id) (r .len) (r .kind) f x));
+        rows = rw (take-set-lt (s .count) (s .rows) k (asRow (r .id) (r .len) (Sliced l (a + 1) next)) low)
+            (all-set _ (live s) k _ (h .rows) (again (r .id) (r .len) (kindOf r) f x));
       }
     where
-      again : (id : MessageId) (n : ℕ) (kd : Kind) → kd ≡ Sliced l a next → RowHas q (s .settings) small lanes (record { id = id; len = n; kind = kd })
-          → RowHas q (s .settings) small lanes (record { id = id; len = n; kind = Sliced l (a + 1) next })
+      again : (id : MessageId) (n : ℕ) (kd : Kind) → kd ≡ Sliced l a next → ToldHas q (s .settings) small lanes (record { id = id; len = n; kind = kd })
+          → ToldHas q (s .settings) small lanes (record { id = id; len = n; kind = Sliced l (a + 1) next })
       again id n kd e y =
-          let z = subst (λ (x : Kind). RowHas q (s .settings) small lanes (record { id = id; len = n; kind = x })) e y in
+          let z = subst (λ (x : Kind). ToldHas q (s .settings) small lanes (record { id = id; len = n; kind = x })) e y in
           record { msg = z .msg; queued = z .queued; len-is = z .len-is; bytes = z .bytes; fits = z .fits; below = z .below }
 
   pub ack-has : (p : Option Part) → After-ack (ackOf p s)

@@ -28,14 +28,14 @@ use Rattle.send_reliable.specs.declared.Kind.the-variants.{Small, Sliced}
 use Rattle.send_reliable.specs.declared.Row.{Row}
 use Rattle.send_reliable.specs.declared.Piece.{Piece}
 use Rattle.send_reliable.specs.declared.SendChannelReliable.{SendChannelReliable}
-use Rattle.send_reliable.specs.Sender.{noRow, noPiece, live, SentBy, PlacedKind, Placed, Apart, Before, Valid}
+use Rattle.send_reliable.specs.Sender.{lastSent, kindOf, asRow, noRow, noPiece, live, SentBy, PlacedKind, Placed, Apart, Before, Valid}
 use Rattle.send_reliable.specs.Select.{Visit, upFrom, rowVisits, visitsFrom, due, sentAt, Chosen, visit, visitKind, select}
 use Rattle.send_reliable.specs.Round.{Given, chosen, packs, stateAfter}
 use Rattle.delivery.specs.World.{Part, whole, piece}
 use Rattle.delivery.specs.Window.{In, here, there, ackedAt, Spaced}
 use Rattle.delivery.proofs.Lists.{in-left, in-right, in-cases, in-map, all-getD, front-head, head-front, reached-append}
 use Rattle.delivery.proofs.Rotate.{Walk, walk, Walked, walked, queueAt, Rotates, turned, queue-same}
-use Rattle.delivery.proofs.Walk.{bareKind, Kept, kept-visits, Elsewhere, Away, away-visits, Other, rows-behind, rowAt, itemAt, Followed, followed}
+use Rattle.delivery.proofs.Walk.{Told, told, bareKind, Kept, kept-visits, Elsewhere, Away, away-visits, Other, rows-behind, itemAt, Followed, followed}
 
 -- ---- the pieces of the items are in the packets
 
@@ -84,14 +84,14 @@ parts-kept x is h =
 -- ---- the clock: `last` is the sender's latest time, or nothing was ever sent
 
 abbrev pub UnsentKind : Kind → Type 0
-UnsentKind (Small i t) = t .«last_sent» ≡ Never
+UnsentKind (Small i t) = lastSent t ≡ Never
 UnsentKind (Sliced l a next) = Unit
 
 abbrev pub UnsentRow : Row → Type 0
-UnsentRow r = UnsentKind (r .kind)
+UnsentRow r = UnsentKind (kindOf r)
 
 abbrev pub UnsentPiece : Piece → Type 0
-UnsentPiece p = p .sending .«last_sent» ≡ Never
+UnsentPiece p = lastSent (p .sending) ≡ Never
 
 abbrev pub Clocked : Sent → SendChannelReliable → Type 0
 Clocked Never s = All UnsentRow (s .rows) × All UnsentPiece (s .pieces)
@@ -106,16 +106,16 @@ due-never resend now t e = ap (due resend now) e
 
 module _ (s : SendChannelReliable) (v : Valid s) (now : ℕ) where
   pub piece-due : (last : Sent) → Clocked last s → Spaced (s .«resend_time») last now → (p : ℕ)
-      → due (s .«resend_time») now (getD (s .pieces) p noPiece .sending .«last_sent») ≡ true
+      → due (s .«resend_time») now (lastSent (getD (s .pieces) p noPiece .sending)) ≡ true
   piece-due Never c h p = due-never (s .«resend_time») now _ (all-getD UnsentPiece (s .pieces) p noPiece (c .1) refl)
   piece-due (At t) c h p =
-      due-old (s .«resend_time») now (s .latest) (getD (s .pieces) p noPiece .sending .«last_sent»)
-      (all-getD (λ (x : Piece). SentBy (s .latest) (x .sending .«last_sent»)) (s .pieces) p noPiece (v .pieces-sent) tt) (omega arith)
+      due-old (s .«resend_time») now (s .latest) (lastSent (getD (s .pieces) p noPiece .sending))
+      (all-getD (λ (x : Piece). SentBy (s .latest) (lastSent (x .sending))) (s .pieces) p noPiece (v .pieces-sent) tt) (omega arith)
 
-  pub small-due : (last : Sent) → Clocked last s → Spaced (s .«resend_time») last now → (i : ℕ) (t : Sending) → getD (s .rows) 0 noRow .kind ≡ Small i t
-      → SentBy (s .latest) (t .«last_sent») → due (s .«resend_time») now (t .«last_sent») ≡ true
+  pub small-due : (last : Sent) → Clocked last s → Spaced (s .«resend_time») last now → (i : ℕ) (t : Sending) → kindOf (getD (s .rows) 0 noRow) ≡ Small i t
+      → SentBy (s .latest) (lastSent t) → due (s .«resend_time») now (lastSent t) ≡ true
   small-due Never c h i t e b = due-never (s .«resend_time») now _ (subst UnsentKind e (all-getD UnsentRow (s .rows) 0 noRow (c .0) refl))
-  small-due (At u) c h i t e b = due-old (s .«resend_time») now (s .latest) (t .«last_sent») b (omega arith)
+  small-due (At u) c h i t e b = due-old (s .«resend_time») now (s .latest) (lastSent t) b (omega arith)
 
 -- ---- the queue of a waiting message
 
@@ -124,7 +124,7 @@ queueKind s n (Small i t) = 0 ∷ []
 queueKind s n (Sliced l a next) = queueAt (ackedAt s l) next (piecesOf n)
 
 abbrev pub queueOf : SendChannelReliable → Row → List ℕ
-queueOf s r = queueKind s (r .len) (r .kind)
+queueOf s r = queueKind s (r .len) (kindOf r)
 
 -- its y-th piece
 abbrev pub partKind : ℕ → Kind → ℕ → Part
@@ -132,7 +132,7 @@ partKind id (Small i t) y = whole id
 partKind id (Sliced l a next) y = piece id y
 
 abbrev pub partAt : Row → ℕ → Part
-partAt r y = partKind (r .id .0) (r .kind) y
+partAt r y = partKind (r .id .0) (kindOf r) y
 
 pub record Turns (s s′ : SendChannelReliable) (r : Row) (parts : List Part) : Type 0 where
   pub row : Row
@@ -160,7 +160,7 @@ past-kind s g n (Small i t) p = tt
 past-kind s g n (Sliced m a next) p = λ q. omega (arith, p .0, g .lanes-most)
 
 module _ (s : SendChannelReliable) (v : Valid s) (r : Row) (rs : List Row) (h : live s ≡ r ∷ rs) where
-  pub head-placed : PlacedKind s (r .len) (r .kind)
+  pub head-placed : PlacedKind s (r .len) (kindOf r)
   unfolding All Placed
   head-placed = subst (All (Placed s)) h (v .placed) .0 .1
 
@@ -172,30 +172,30 @@ module _ (s : SendChannelReliable) (v : Valid s) (r : Row) (rs : List Row) (h : 
   unfolding All Pairs
   rest-before = subst (Pairs Before) h (v .rising) .0
 
-  pub others-apart : (l a next : ℕ) → r .kind ≡ Sliced l a next → All (λ (x : Row). Other l (x .len) (x .kind)) rs
+  pub others-apart : (l a next : ℕ) → kindOf r ≡ Sliced l a next → All (λ (x : Row). Other l (x .len) (kindOf x)) rs
   unfolding Placed Before
   others-apart l a next e =
       all-both (Placed s) (Before r) _
-      (λ x p b. other-kind s (v .settings) l (x .len) (x .kind) (p .1) (apart-kind s l a next (x .kind) (subst (λ (kd : Kind). Apart kd (x .kind)) e (b .1))))
+      (λ x p b. other-kind s (v .settings) l (x .len) (kindOf x) (p .1) (apart-kind s l a next (kindOf x) (subst (λ (kd : Kind). Apart kd (kindOf x)) e (b .1))))
       rs rest-placed rest-before
 
-  others-past : All (λ (x : Row). Other LANES (x .len) (x .kind)) rs
+  others-past : All (λ (x : Row). Other LANES (x .len) (kindOf x)) rs
   unfolding Placed
   others-past =
-      all-map (Placed s) _ (λ x p. other-kind s (v .settings) LANES (x .len) (x .kind) (p .1) (past-kind s (v .settings) (x .len) (x .kind) (p .1))) rs rest-placed
+      all-map (Placed s) _ (λ x p. other-kind s (v .settings) LANES (x .len) (kindOf x) (p .1) (past-kind s (v .settings) (x .len) (kindOf x) (p .1))) rs rest-placed
 
   pub first-is : (1 ≤ s .count) × (1 ≤ length (s .rows)) × (getD (s .rows) 0 noRow ≡ r)
   first-is = front-head (s .count) (s .rows) rs r noRow h
 
   -- the kinds of the rows behind
   abbrev kindsOf : ℕ → Kind
-  kindsOf k = bareKind (getD (s .rows) k noRow .kind)
+  kindsOf k = bareKind (kindOf (getD (s .rows) k noRow))
 
-  behind-kinds : (j : ℕ) → j < length rs → kindsOf (1 + j) ≡ bareKind (getD rs j noRow .kind)
+  behind-kinds : (j : ℕ) → j < length rs → kindsOf (1 + j) ≡ bareKind (kindOf (getD rs j noRow))
   behind-kinds j low =
       let z : 1 + j ≡ suc j = omega arith in
       let n : suc j < s .count = let q = length-take (s .count) (s .rows) in let m = ap length h in omega arith in
-      rw z (ap (λ (x : Row). bareKind (x .kind)) (sym (getD-take (s .count) (s .rows) (suc j) noRow n) ∙ ap (λ (l : List Row). getD l (suc j) noRow) h))
+      rw z (ap (λ (x : Row). bareKind (kindOf x)) (sym (getD-take (s .count) (s .rows) (suc j) noRow n) ∙ ap (λ (l : List Row). getD l (suc j) noRow) h))
 
   module _ (g : Given) where
     abbrev visiting : Chosen → Visit → Chosen
@@ -205,9 +205,9 @@ module _ (s : SendChannelReliable) (v : Valid s) (r : Row) (rs : List Row) (h : 
     c₀ = record { left = g .allowance; items = []; rows = s .rows; pieces = s .pieces }
 
     -- the visits of the first row, then the others
-    select-is : chosen s g ≡ reached visiting (reached visiting c₀ (rowVisits 0 (r .len) (r .kind))) (visitsFrom 1 rs)
+    select-is : chosen s g ≡ reached visiting (reached visiting c₀ (rowVisits 0 (r .len) (kindOf r))) (visitsFrom 1 rs)
     unfolding select visitsFrom
-    select-is = ap (λ (l : List Row). reached visiting c₀ (visitsFrom 0 l)) h ∙ reached-append visiting c₀ (rowVisits 0 (r .len) (r .kind)) (visitsFrom 1 rs)
+    select-is = ap (λ (l : List Row). reached visiting c₀ (visitsFrom 0 l)) h ∙ reached-append visiting c₀ (rowVisits 0 (r .len) (kindOf r)) (visitsFrom 1 rs)
 
     -- the first of the waiting afterwards
     live-after : (x : Row) → getD (chosen s g .rows) 0 noRow ≡ x → (rest : List Row) × (live (stateAfter s g) ≡ x ∷ rest)
@@ -217,9 +217,9 @@ module _ (s : SendChannelReliable) (v : Valid s) (r : Row) (rs : List Row) (h : 
         let f = head-front (s .count) (chosen s g .rows) noRow (first-is .0) (rw (k .rows-long) (first-is .1)) in
         (f .0, f .1 ∙ ap (λ (y : Row). y ∷ f .0) e)
       where
-        kept-both : Kept c₀ (reached visiting (reached visiting c₀ (rowVisits 0 (r .len) (r .kind))) (visitsFrom 1 rs))
-        kept-both = subst (Kept c₀) (reached-append visiting c₀ (rowVisits 0 (r .len) (r .kind)) (visitsFrom 1 rs))
-            (kept-visits (s .settings) (s .«resend_time») (g .now) (rowVisits 0 (r .len) (r .kind) ++ visitsFrom 1 rs) c₀)
+        kept-both : Kept c₀ (reached visiting (reached visiting c₀ (rowVisits 0 (r .len) (kindOf r))) (visitsFrom 1 rs))
+        kept-both = subst (Kept c₀) (reached-append visiting c₀ (rowVisits 0 (r .len) (kindOf r)) (visitsFrom 1 rs))
+            (kept-visits (s .settings) (s .«resend_time») (g .now) (rowVisits 0 (r .len) (kindOf r) ++ visitsFrom 1 rs) c₀)
 
     -- its packets hold what was chosen on the way
     in-packs : (c : Chosen) (x : Item) → Kept c (chosen s g) → In x (c .items) → In (partOf x) (allParts (packs s g))
@@ -228,28 +228,28 @@ module _ (s : SendChannelReliable) (v : Valid s) (r : Row) (rs : List Row) (h : 
     kept-on : (c : Chosen) → chosen s g ≡ reached visiting c (visitsFrom 1 rs) → Kept c (chosen s g)
     kept-on c e = subst (Kept c) (sym e) (kept-visits (s .settings) (s .«resend_time») (g .now) (visitsFrom 1 rs) c)
 
-    away-on : (c : Chosen) (l : ℕ) → Kept c₀ c → All (λ (x : Row). Other l (x .len) (x .kind)) rs → Away (s .settings) (s .«resend_time») (g .now) l c (reached visiting c (visitsFrom 1 rs))
+    away-on : (c : Chosen) (l : ℕ) → Kept c₀ c → All (λ (x : Row). Other l (x .len) (kindOf x)) rs → Away (s .settings) (s .«resend_time») (g .now) l c (reached visiting c (visitsFrom 1 rs))
     away-on c l k o =
-        away-visits (s .settings) (s .«resend_time») (g .now) kindsOf l (visitsFrom 1 rs) c (λ j. ap (λ (x : Row). x .kind) (k .rows j))
+        away-visits (s .settings) (s .«resend_time») (g .now) kindsOf l (visitsFrom 1 rs) c (λ j. ap (λ (x : Told). x .kind) (k .rows j))
         (rows-behind (s .settings) (s .«resend_time») (g .now) kindsOf l 1 rs (omega arith) behind-kinds o)
 
     -- ---- a small message goes
 
-    module _ (i : ℕ) (t : Sending) (e : r .kind ≡ Small i t) (fits : r .len ≤ g .allowance) (d : due (s .«resend_time») (g .now) (t .«last_sent») ≡ true) where
+    module _ (i : ℕ) (t : Sending) (e : kindOf r ≡ Small i t) (fits : r .len ≤ g .allowance) (d : due (s .«resend_time») (g .now) (lastSent t) ≡ true) where
       abbrev small-item : Item
       small-item = record { num = 0; id = r .id .0; index = 0; place = i * SLICE_SIZE; len = r .len }
 
       abbrev small-row : Row
-      small-row = record { id = r .id; len = r .len; kind = Small i (sentAt (g .now)) }
+      small-row = asRow (r .id) (r .len) (Small i (sentAt (g .now)))
 
       abbrev after-small : Chosen
       after-small = record { left = g .allowance - r .len; items = small-item ∷ []; rows = set (s .rows) 0 small-row; pieces = s .pieces }
 
-      small-visited : reached visiting c₀ (rowVisits 0 (r .len) (r .kind)) ≡ after-small
+      small-visited : reached visiting c₀ (rowVisits 0 (r .len) (kindOf r)) ≡ after-small
       unfolding reached upFrom visit
       small-visited =
           ap (λ (kd : Kind). reached visiting c₀ (rowVisits 0 (r .len) kd)) e
-          ∙ ap (λ (x : Row). visitKind (s .settings) (s .«resend_time») (g .now) c₀ 0 0 x (x .kind)) (first-is .2)
+          ∙ ap (λ (x : Row). visitKind (s .settings) (s .«resend_time») (g .now) c₀ 0 0 x (kindOf x)) (first-is .2)
           ∙ ap (λ (kd : Kind). visitKind (s .settings) (s .«resend_time») (g .now) c₀ 0 0 r kd) e
           ∙ rw (le-ltb (g .allowance) (r .len) fits, d)
 
@@ -257,7 +257,7 @@ module _ (s : SendChannelReliable) (v : Valid s) (r : Row) (rs : List Row) (h : 
       small-selected = select-is ∙ ap (λ (c : Chosen). reached visiting c (visitsFrom 1 rs)) small-visited
 
       small-kept : Kept c₀ after-small
-      small-kept = subst (Kept c₀) small-visited (kept-visits (s .settings) (s .«resend_time») (g .now) (rowVisits 0 (r .len) (r .kind)) c₀)
+      small-kept = subst (Kept c₀) small-visited (kept-visits (s .settings) (s .«resend_time») (g .now) (rowVisits 0 (r .len) (kindOf r)) c₀)
 
       pub small-turns : Turns s (stateAfter s g) r (allParts (packs s g))
       small-turns =
@@ -277,8 +277,8 @@ module _ (s : SendChannelReliable) (v : Valid s) (r : Row) (rs : List Row) (h : 
 
     -- ---- of a sliced one, a part of its queue goes
 
-    module _ (l a next : ℕ) (e : r .kind ≡ Sliced l a next) (enough : SLICE_SIZE ≤ g .allowance)
-        (d : (p : ℕ) → due (s .«resend_time») (g .now) (getD (s .pieces) p noPiece .sending .«last_sent») ≡ true) where
+    module _ (l a next : ℕ) (e : kindOf r ≡ Sliced l a next) (enough : SLICE_SIZE ≤ g .allowance)
+        (d : (p : ℕ) → due (s .«resend_time») (g .now) (lastSent (getD (s .pieces) p noPiece .sending)) ≡ true) where
       abbrev n : ℕ
       n = piecesOf (r .len)
 
@@ -306,13 +306,13 @@ module _ (s : SendChannelReliable) (v : Valid s) (r : Row) (rs : List Row) (h : 
       kept₁ : Kept c₀ c₁
       kept₁ = kept-visits (s .settings) (s .«resend_time») (g .now) (upFrom 0 next (n - next)) c₀
 
-      visited : reached visiting c₀ (rowVisits 0 (r .len) (r .kind)) ≡ c₂
+      visited : reached visiting c₀ (rowVisits 0 (r .len) (kindOf r)) ≡ c₂
       visited =
           ap (λ (kd : Kind). reached visiting c₀ (rowVisits 0 (r .len) kd)) e
           ∙ reached-append visiting c₀ (upFrom 0 next (n - next)) (upFrom 0 0 next)
 
       kept₂ : Kept c₀ c₂
-      kept₂ = subst (Kept c₀) visited (kept-visits (s .settings) (s .«resend_time») (g .now) (rowVisits 0 (r .len) (r .kind)) c₀)
+      kept₂ = subst (Kept c₀) visited (kept-visits (s .settings) (s .«resend_time») (g .now) (rowVisits 0 (r .len) (kindOf r)) c₀)
 
       selected : chosen s g ≡ reached visiting c₂ (visitsFrom 1 rs)
       selected = select-is ∙ ap (λ (c : Chosen). reached visiting c (visitsFrom 1 rs)) visited
@@ -320,7 +320,7 @@ module _ (s : SendChannelReliable) (v : Valid s) (r : Row) (rs : List Row) (h : 
       follow₁ : Followed (s .settings) (s .«resend_time») (g .now) (r .id) (r .len) l a f c₀ c₁ next w₁
       follow₁ =
           followed (s .settings) (s .«resend_time») (g .now) (r .id) (r .len) l a f (n - next) next next c₀ (first-is .1)
-          (first-is .2 ∙ ap (λ (kd : Kind). record { id = r .id; len = r .len; kind = kd }) e) (λ j. refl) (λ j h m. d (l * PIECES + j))
+          (ap told (first-is .2) ∙ ap (λ (kd : Kind). record { id = r .id; len = r .len; kind = kd }) e) (λ j. refl) (λ j h m. d (l * PIECES + j))
 
       follow₂ : Followed (s .settings) (s .«resend_time») (g .now) (r .id) (r .len) l a f c₁ c₂ 0 w₂
       follow₂ =
@@ -369,18 +369,18 @@ module _ (s : SendChannelReliable) (v : Valid s) (r : Row) (rs : List Row) (h : 
       pub sliced-turns : Turns s (stateAfter s g) r (allParts (packs s g))
       sliced-turns =
           let away = away-on c₂ l kept₂ (others-apart l a next e) in
-          let q = ap (λ (c : Chosen). getD (c .rows) 0 noRow) selected ∙ away .head ∙ follow₂ .row in
-          let x = live-after _ q in
+          let q = ap (λ (c : Chosen). told (getD (c .rows) 0 noRow)) selected ∙ ap told (away .head) ∙ follow₂ .row in
+          let x = live-after (getD (chosen s g .rows) 0 noRow) refl in
           record {
-            row = rowAt (s .settings) (s .«resend_time») (g .now) (r .id) (r .len) l a f (w₂ .next);
+            row = getD (chosen s g .rows) 0 noRow;
             rest = x .0;
             head = x .1;
-            named = λ y. ap (λ (kd : Kind). partKind (r .id .0) kd y) (sym e);
+            named = λ y. ap (λ (z : Told). partKind (z .id .0) (z .kind) y) q ∙ ap (λ (kd : Kind). partKind (r .id .0) kd y) (sym e);
             sends = w₁ .out ++ w₂ .out;
             rotates = record {
               back = turning .back;
               before = ap (queueKind s (r .len)) e ∙ turning .before;
-              after = sym (queue-same f (ackedAt (stateAfter s g) l) (w₂ .next) n next-low (λ k m. same-flags k)) ∙ turning .after;
+              after = ap (λ (z : Told). queueKind (stateAfter s g) (z .len) (z .kind)) q ∙ sym (queue-same f (ackedAt (stateAfter s g) l) (w₂ .next) n next-low (λ k m. same-flags k)) ∙ turning .after;
               moves = moved (turning .moves);
             };
             sent = λ y k. rw e (rw (names-piece y) at (in-packs c₂ _ (kept-on c₂ selected) (in-items y k)));
@@ -393,10 +393,10 @@ module _ (s : SendChannelReliable) (v : Valid s) (r : Row) (rs : List Row) (h : 
     -- ---- either way
 
     pub turns : (last : Sent) → Clocked last s → Spaced (s .«resend_time») last (g .now) → SLICE_SIZE ≤ g .allowance → Turns s (stateAfter s g) r (allParts (packs s g))
-    turns last c sp enough = at (r .kind) refl
+    turns last c sp enough = at (kindOf r) refl
       where
-        at : (kd : Kind) → r .kind ≡ kd → Turns s (stateAfter s g) r (allParts (packs s g))
+        at : (kd : Kind) → kindOf r ≡ kd → Turns s (stateAfter s g) r (allParts (packs s g))
         at (Small i t) e =
             let p = subst (PlacedKind s (r .len)) e head-placed in
-            small-turns i t e (omega (arith, p .2)) (small-due s v (g .now) last c sp i t (ap (λ (x : Row). x .kind) (first-is .2) ∙ e) (p .3))
+            small-turns i t e (omega (arith, p .2)) (small-due s v (g .now) last c sp i t (ap (λ (x : Row). kindOf x) (first-is .2) ∙ e) (p .3))
         at (Sliced l a next) e = sliced-turns l a next e enough (piece-due s v (g .now) last c sp)

@@ -22,20 +22,29 @@ use Rattle.send_reliable.specs.declared.Kind.{Kind}
 use Rattle.send_reliable.specs.declared.Kind.the-variants.{Small, Sliced}
 use Rattle.send_reliable.specs.declared.Row.{Row}
 use Rattle.send_reliable.specs.declared.Piece.{Piece}
-use Rattle.send_reliable.specs.Sender.{unsent, noRow, noPiece}
-use Rattle.send_reliable.specs.Select.{Visit, upFrom, rowVisits, visitsFrom, due, sentAt, Chosen, visitKind, visit}
+use Rattle.send_reliable.specs.Sender.{lastSent, kindOf, asRow, unsent, noRow, noPiece}
+use Rattle.send_reliable.specs.Select.{Visit, upFrom, rowVisits, visitsFrom, due, sentAt, Chosen, visitPiece, visitKind, visit}
 use Rattle.delivery.proofs.Lists.{append-nil, set-keeps}
 use Rattle.delivery.proofs.Rotate.{Walk, sendOne, walk}
 
 -- ---- any visit
 
--- a row without its sendings
+-- what a row tells of its message
+pub record Told : Type 0 where
+  pub id : MessageId
+  pub len : ℕ
+  pub kind : Kind
+
+abbrev pub told : Row → Told
+told r = record { id = r .id; len = r .len; kind = kindOf r }
+
+-- and without its sendings
 abbrev pub bareKind : Kind → Kind
 bareKind (Small i t) = Small i unsent
 bareKind (Sliced l a next) = Sliced l a 0
 
-abbrev pub bare : Row → Row
-bare r = record { id = r .id; len = r .len; kind = bareKind (r .kind) }
+abbrev pub bare : Row → Told
+bare r = record { id = r .id; len = r .len; kind = bareKind (kindOf r) }
 
 pub record Kept (c c′ : Chosen) : Type 0 where
   pub rows : (k : ℕ) → bare (getD (c′ .rows) k noRow) ≡ bare (getD (c .rows) k noRow)
@@ -60,10 +69,10 @@ kept-then {a} x y =
     }
 
 module _ (st : Settings) (resend now : ℕ) where
-  kept-kind : (c : Chosen) (k i : ℕ) (r : Row) (kd : Kind) → getD (c .rows) k noRow ≡ r → r .kind ≡ kd → Kept c (visitKind st resend now c k i r kd)
+  kept-kind : (c : Chosen) (k i : ℕ) (r : Row) (kd : Kind) → getD (c .rows) k noRow ≡ r → kindOf r ≡ kd → Kept c (visitKind st resend now c k i r kd)
   kept-kind c k i r (Small cell t) e f =
       pick-cases (Kept c) (ltb (c .left) (r .len)) (λ _. kept-same c)
-      (λ _. pick-cases (Kept c) (due resend now (t .«last_sent»))
+      (λ _. pick-cases (Kept c) (due resend now (lastSent t))
       (λ _. record {
         rows = set-keeps bare (c .rows) k _ noRow (sym (ap bare e ∙ ap (λ (x : Kind). record { id = r .id; len = r .len; kind = bareKind x }) f));
         acked = λ p. refl;
@@ -76,7 +85,7 @@ module _ (st : Settings) (resend now : ℕ) where
   kept-kind c k i r (Sliced l a next) e f =
       pick-cases (Kept c) (ltb (c .left) SLICE_SIZE) (λ _. kept-same c)
       (λ _. pick-cases (Kept c) (getD (c .pieces) (l * PIECES + i) noPiece .acked) (λ _. kept-same c)
-      (λ _. pick-cases (Kept c) (due resend now (getD (c .pieces) (l * PIECES + i) noPiece .sending .«last_sent»))
+      (λ _. pick-cases (Kept c) (due resend now (lastSent (getD (c .pieces) (l * PIECES + i) noPiece .sending)))
       (λ _. record {
         rows = set-keeps bare (c .rows) k _ noRow (sym (ap bare e ∙ ap (λ (x : Kind). record { id = r .id; len = r .len; kind = bareKind x }) f));
         acked = set-keeps (λ (p : Piece). p .acked) (c .pieces) (l * PIECES + i) _ noPiece refl;
@@ -89,7 +98,7 @@ module _ (st : Settings) (resend now : ℕ) where
 
   pub kept-visit : (c : Chosen) (v : Visit) → Kept c (visit st resend now c v)
   unfolding visit
-  kept-visit c v = kept-kind c (v .row) (v .piece) (getD (c .rows) (v .row) noRow) (getD (c .rows) (v .row) noRow .kind) refl refl
+  kept-visit c v = kept-kind c (v .row) (v .piece) (getD (c .rows) (v .row) noRow) (kindOf (getD (c .rows) (v .row) noRow)) refl refl
 
   pub kept-visits : (vs : List Visit) (c : Chosen) → Kept c (reached (visit st resend now) c vs)
   unfolding reached
@@ -114,13 +123,13 @@ module _ (st : Settings) (resend now : ℕ) where
   away-kind : (l : ℕ) (c : Chosen) (k i : ℕ) (r : Row) (kd : Kind) → i < PIECES → Elsewhere l (bareKind kd) → Away l c (visitKind st resend now c (suc k) i r kd)
   away-kind l c k i r (Small cell t) low e =
       pick-cases (Away l c) (ltb (c .left) (r .len)) (λ _. away-same l c)
-      (λ _. pick-cases (Away l c) (due resend now (t .«last_sent»))
+      (λ _. pick-cases (Away l c) (due resend now (lastSent t))
       (λ _. record { head = getD-set-other (c .rows) (suc k) 0 _ noRow (omega arith); lane = λ j h. refl })
       (λ _. away-same l c))
   away-kind l c k i r (Sliced m a next) low e =
       pick-cases (Away l c) (ltb (c .left) SLICE_SIZE) (λ _. away-same l c)
       (λ _. pick-cases (Away l c) (getD (c .pieces) (m * PIECES + i) noPiece .acked) (λ _. away-same l c)
-      (λ _. pick-cases (Away l c) (due resend now (getD (c .pieces) (m * PIECES + i) noPiece .sending .«last_sent»))
+      (λ _. pick-cases (Away l c) (due resend now (lastSent (getD (c .pieces) (m * PIECES + i) noPiece .sending)))
       (λ _. record {
         head = getD-set-other (c .rows) (suc k) 0 _ noRow (omega arith);
         lane = λ j h. getD-set-other (c .pieces) (m * PIECES + i) (l * PIECES + j) _ noPiece (λ q. e (omega arith));
@@ -131,10 +140,10 @@ module _ (st : Settings) (resend now : ℕ) where
   abbrev pub Behind : (ℕ → Kind) → ℕ → Visit → Type 0
   Behind K l v = (1 ≤ v .row) × (v .piece < PIECES) × Elsewhere l (K (v .row))
 
-  away-visit : (l : ℕ) (c : Chosen) (k i : ℕ) → 1 ≤ k → i < PIECES → Elsewhere l (bareKind (getD (c .rows) k noRow .kind)) → Away l c (visit st resend now c (record { row = k; piece = i }))
+  away-visit : (l : ℕ) (c : Chosen) (k i : ℕ) → 1 ≤ k → i < PIECES → Elsewhere l (bareKind (kindOf (getD (c .rows) k noRow))) → Away l c (visit st resend now c (record { row = k; piece = i }))
   unfolding visit
   away-visit l c zero i one low e = absurd (omega arith)
-  away-visit l c (suc k) i one low e = away-kind l c k i (getD (c .rows) (suc k) noRow) (getD (c .rows) (suc k) noRow .kind) low e
+  away-visit l c (suc k) i one low e = away-kind l c k i (getD (c .rows) (suc k) noRow) (kindOf (getD (c .rows) (suc k) noRow)) low e
 
   pub away-visits : (K : ℕ → Kind) (l : ℕ) (vs : List Visit) (c : Chosen) → ((k : ℕ) → bare (getD (c .rows) k noRow) .kind ≡ K k) → All (Behind K l) vs
       → Away l c (reached (visit st resend now) c vs)
@@ -143,7 +152,7 @@ module _ (st : Settings) (resend now : ℕ) where
   away-visits K l (v ∷ vs) c same b =
       let a = away-visit l c (v .row) (v .piece) (b .0 .0) (b .0 .1) (subst (Elsewhere l) (sym (same (v .row))) (b .0 .2)) in
       let c₁ = visit st resend now c v in
-      let r = away-visits K l vs c₁ (λ k. ap (λ (x : Row). x .kind) (kept-visit c v .rows k) ∙ same k) (b .1) in
+      let r = away-visits K l vs c₁ (λ k. ap (λ (x : Told). x .kind) (kept-visit c v .rows k) ∙ same k) (b .1) in
       record { head = r .head ∙ a .head; lane = λ j h. r .lane j h ∙ a .lane j h }
 
 -- ---- which visits a round makes
@@ -171,20 +180,20 @@ module _ (st : Settings) (resend now : ℕ) (K : ℕ → Kind) (l : ℕ) where
       at : (v : Visit) → v .row ≡ k → v .piece < PIECES → Behind st resend now K l v
       at v q h = (omega arith, h, subst (λ (j : ℕ). Elsewhere st resend now l (K j)) (sym q) (subst (Elsewhere st resend now l) (sym e) (o .0)))
 
-  pub rows-behind : (k : ℕ) (rs : List Row) → 1 ≤ k → ((j : ℕ) → j < length rs → K (k + j) ≡ bareKind (getD rs j noRow .kind))
-      → All (λ (r : Row). Other l (r .len) (r .kind)) rs → All (Behind st resend now K l) (visitsFrom k rs)
+  pub rows-behind : (k : ℕ) (rs : List Row) → 1 ≤ k → ((j : ℕ) → j < length rs → K (k + j) ≡ bareKind (kindOf (getD rs j noRow)))
+      → All (λ (r : Row). Other l (r .len) (kindOf r)) rs → All (Behind st resend now K l) (visitsFrom k rs)
   unfolding visitsFrom All
   rows-behind k [] one e o = tt
   rows-behind k (r ∷ rs) one e o =
       let z : k + 0 ≡ k = omega arith in
-      all-append _ (rowVisits k (r .len) (r .kind)) (visitsFrom (k + 1) rs)
-      (row-behind k (r .len) (r .kind) one (rw z at (e 0 (omega arith))) (o .0))
+      all-append _ (rowVisits k (r .len) (kindOf r)) (visitsFrom (k + 1) rs)
+      (row-behind k (r .len) (kindOf r) one (rw z at (e 0 (omega arith))) (o .0))
       (rows-behind (k + 1) rs (omega arith) (λ j h. let q : k + 1 + j ≡ k + suc j = omega arith in rw q (e (suc j) (omega arith))) (o .1))
 
 -- ---- visits of the first row, which is sliced: its pieces in lane l are acknowledged as f says
 
 module _ (st : Settings) (resend now : ℕ) (id : MessageId) (len l a : ℕ) (f : ℕ → Bool) where
-  abbrev pub rowAt : ℕ → Row
+  abbrev pub rowAt : ℕ → Told
   rowAt next = record { id = id; len = len; kind = Sliced l a next }
 
   abbrev pub itemAt : ℕ → Item
@@ -198,23 +207,24 @@ module _ (st : Settings) (resend now : ℕ) (id : MessageId) (len l a : ℕ) (f 
       record {
         left = c .left - pieceLen len i;
         items = c .items ++ (itemAt i ∷ []);
-        rows = set (c .rows) 0 (rowAt (i + 1));
+        rows = set (c .rows) 0 (asRow id len (Sliced l a (i + 1)));
         pieces = set (c .pieces) (l * PIECES + i) (record { acked = pieceIn c i .acked; sending = sentAt now });
       }
 
   abbrev Due : Piece → Type 0
-  Due p = due resend now (p .sending .«last_sent») ≡ true
+  Due p = due resend now (lastSent (p .sending)) ≡ true
 
-  visit-is : (c : Chosen) (i next : ℕ) → getD (c .rows) 0 noRow ≡ rowAt next → pieceIn c i .acked ≡ f i → Due (pieceIn c i)
+  visit-is : (c : Chosen) (i next : ℕ) → told (getD (c .rows) 0 noRow) ≡ rowAt next → pieceIn c i .acked ≡ f i → Due (pieceIn c i)
       → visit st resend now c (record { row = 0; piece = i }) ≡ pick (ltb (c .left) SLICE_SIZE) c (pick (f i) c (sentPiece c i))
   unfolding visit
   visit-is c i next r e d =
-      ap (λ (x : Row). visitKind st resend now c 0 i x (x .kind)) r
-      ∙ ap (λ (b : Bool). pick (ltb (c .left) SLICE_SIZE) c (pick b c (pick (due resend now (pieceIn c i .sending .«last_sent»)) (sentPiece c i) c))) e
+      ap (λ (x : Told). visitKind st resend now c 0 i (getD (c .rows) 0 noRow) (x .kind)) r
+      ∙ ap (λ (x : Told). visitPiece st resend now c 0 i (asRow (x .id) (x .len) (Sliced l a next)) l a (pieceIn c i)) r
+      ∙ ap (λ (b : Bool). pick (ltb (c .left) SLICE_SIZE) c (pick b c (pick (due resend now (lastSent (pieceIn c i .sending))) (sentPiece c i) c))) e
       ∙ ap (λ (b : Bool). pick (ltb (c .left) SLICE_SIZE) c (pick (f i) c (pick b (sentPiece c i) c))) d
 
   pub record Followed (c c′ : Chosen) (i : ℕ) (w : Walk) : Type 0 where
-    pub row : getD (c′ .rows) 0 noRow ≡ rowAt (w .next)
+    pub row : told (getD (c′ .rows) 0 noRow) ≡ rowAt (w .next)
     pub left : c′ .left ≡ w .left
     pub items : c′ .items ≡ c .items ++ map itemAt (w .out)
     pub before : (j : ℕ) → j < i → pieceIn c′ j ≡ pieceIn c j
@@ -235,7 +245,7 @@ module _ (st : Settings) (resend now : ℕ) (id : MessageId) (len l a : ℕ) (f 
       let z : reached (visit st resend now) (visit st resend now c (record { row = 0; piece = i })) (upFrom 0 (i + 1) n) ≡ visits c (i + 1) n
       = ap (λ (x : Chosen). reached (visit st resend now) x (upFrom 0 (i + 1) n)) v in
       record {
-        row = ap (λ (x : Chosen). getD (x .rows) 0 noRow) z ∙ h .row ∙ ap (λ (w : Walk). rowAt (w .next)) (sym e);
+        row = ap (λ (x : Chosen). told (getD (x .rows) 0 noRow)) z ∙ h .row ∙ ap (λ (w : Walk). rowAt (w .next)) (sym e);
         left = ap (λ (x : Chosen). x .left) z ∙ h .left ∙ ap (λ (w : Walk). w .left) (sym e);
         items = ap (λ (x : Chosen). x .items) z ∙ h .items ∙ ap (λ (w : Walk). c .items ++ map itemAt (w .out)) (sym e);
         before = λ j m. ap (λ (x : Chosen). pieceIn x j) z ∙ h .before j (omega arith);
@@ -252,7 +262,7 @@ module _ (st : Settings) (resend now : ℕ) (id : MessageId) (len l a : ℕ) (f 
       = ap (λ (x : Chosen). reached (visit st resend now) x (upFrom 0 (i + 1) n)) v in
       let o = walkOf (i + 1) n (i + 1) (c .left - pieceLen len i) .out in
       record {
-        row = ap (λ (x : Chosen). getD (x .rows) 0 noRow) z ∙ h .row ∙ ap (λ (w : Walk). rowAt (w .next)) (sym e);
+        row = ap (λ (x : Chosen). told (getD (x .rows) 0 noRow)) z ∙ h .row ∙ ap (λ (w : Walk). rowAt (w .next)) (sym e);
         left = ap (λ (x : Chosen). x .left) z ∙ h .left ∙ ap (λ (w : Walk). w .left) (sym e);
         items = ap (λ (x : Chosen). x .items) z ∙ h .items ∙ append-assoc (c .items) (itemAt i ∷ []) (map itemAt o) ∙ ap (λ (w : Walk). c .items ++ map itemAt (w .out)) (sym e);
         before = λ j m. ap (λ (x : Chosen). pieceIn x j) z ∙ h .before j (omega arith) ∙ getD-set-other (c .pieces) (l * PIECES + i) (l * PIECES + j) _ noPiece (omega arith);
@@ -270,11 +280,11 @@ module _ (st : Settings) (resend now : ℕ) (id : MessageId) (len l a : ℕ) (f 
   unfolding walk
   walk-sent n i next k t e = rw (t, e)
 
-  followed-none : (i next : ℕ) (c : Chosen) → getD (c .rows) 0 noRow ≡ rowAt next → Followed c (visits c i zero) i (walkOf i zero next (c .left))
+  followed-none : (i next : ℕ) (c : Chosen) → told (getD (c .rows) 0 noRow) ≡ rowAt next → Followed c (visits c i zero) i (walkOf i zero next (c .left))
   unfolding reached upFrom walk
   followed-none i next c r = record { row = r; left = refl; items = sym (append-nil (c .items)); before = λ j h. refl }
 
-  pub followed : (n i next : ℕ) (c : Chosen) → 1 ≤ length (c .rows) → getD (c .rows) 0 noRow ≡ rowAt next → ((j : ℕ) → pieceIn c j .acked ≡ f j)
+  pub followed : (n i next : ℕ) (c : Chosen) → 1 ≤ length (c .rows) → told (getD (c .rows) 0 noRow) ≡ rowAt next → ((j : ℕ) → pieceIn c j .acked ≡ f j)
       → ((j : ℕ) → i ≤ j → j < i + n → Due (pieceIn c j)) → Followed c (visits c i n) i (walkOf i n next (c .left))
   followed zero i next c long r e d = followed-none i next c r
   followed (suc n) i next c long r e d =
@@ -286,6 +296,6 @@ module _ (st : Settings) (resend now : ℕ) (id : MessageId) (len l a : ℕ) (f 
       (λ u. gone-on n i next c (v ∙ rw (t, u)) (walk-sent n i next (c .left) t u)
       (followed n (i + 1) (i + 1) (sentPiece c i)
       (rw length-set long)
-      (getD-set-same (c .rows) 0 (rowAt (i + 1)) noRow long)
+      (ap told (getD-set-same (c .rows) 0 (asRow id len (Sliced l a (i + 1))) noRow long))
       (λ j. set-keeps (λ (p : Piece). p .acked) (c .pieces) (l * PIECES + i) (record { acked = pieceIn c i .acked; sending = sentAt now }) noPiece refl (l * PIECES + j) ∙ e j)
       (λ j h m. rw (getD-set-other (c .pieces) (l * PIECES + i) (l * PIECES + j) (record { acked = pieceIn c i .acked; sending = sentAt now }) noPiece (omega arith)) (d j (omega arith) (omega arith))))))

@@ -13,7 +13,7 @@ use Rattle.octets.specs.Reader.{Res, ok, fault}
 use Rattle.packet_small.specs.Small as small
 use Rattle.packet.specs.Packet as reader
 use Rattle.packet.specs.Packet.{smallReliable, smallUnreliable, reliableSlice, unreliableSlice, ack}
-use Rattle.send_reliable.specs.Sender.{pieceAt}
+use Rattle.send_reliable.specs.Sender.{kindOf, pieceAt}
 use Rattle.send_reliable.specs.declared.Sent.{Sent}
 use Rattle.send_reliable.specs.declared.Sent.the-variants.{Never, At}
 use Rattle.send_reliable.specs.declared.Kind.{Kind}
@@ -42,7 +42,7 @@ openOf s r (Small i t) = whole (r .id .0) ∷ []
 openOf s r (Sliced l a next) = map (piece (r .id .0)) (openFrom (ackedAt s l) 0 (piecesOf (r .len)))
 
 abbrev pub unacknowledged : SendChannelReliable → Row → List Part
-unacknowledged s r = openOf s r (r .kind)
+unacknowledged s r = openOf s r (kindOf r)
 
 -- ---- the pieces that are sent: those that the bytes of an accepted round's packets say, read by the reader
 

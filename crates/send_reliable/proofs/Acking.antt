@@ -1,68 +1,37 @@
 -- The row of an id, and what acknowledgements give. Assumes nothing.
-use Prim.Native.Nat.{ℕ, suc, _+_, _-_, _≤_, _<_}
-use mathlib.Core.Path.{_≡_, refl, ap, _∙_}
+use Prim.Native.Nat.{ℕ, _+_, _<_}
+use mathlib.Core.Path.{_≡_, refl, sym, ap, _∙_}
 use mathlib.Core.Bool.{Bool, true, false}
-use mathlib.Core.List.{List}
-use borrow.Author.Tests.{ltb-true, eqb-false, lt-leb, le-leb, eq-eqb, ne-eqb}
-use lib.Dec.{ltb, eqb}
-use lib.ListN.{length, getD, set, drop}
-use lib.Seq.{paste}
+use borrow.Author.Tests.{ltb-true, leb-false, eqb-false, lt-leb, eq-eqb, ne-eqb}
+use lib.Dec.{ltb, leb, eqb}
+use lib.ListN.{getD, set}
 use Rattle.words.specs.Sizes.{LIMIT}
 use Rattle.words.specs.Choice.{pick}
 use Rattle.words.specs.Pieces.{piecesOf}
-use Rattle.words.proofs.Tables.{clash, pick-cases}
+use Rattle.words.proofs.Tables.{clash, by-test, pick-cases}
 use Rattle.send_reliable.specs.declared.Sending.{Sending}
+use Rattle.send_reliable.specs.declared.Kind.{Kind}
 use Rattle.send_reliable.specs.declared.Kind.the-variants.{Small, Sliced}
 use Rattle.send_reliable.specs.declared.Row.{Row}
 use Rattle.send_reliable.specs.declared.SendChannelReliable.{SendChannelReliable}
+use Rattle.send_reliable.specs.declared.Found.{Found}
 use Rattle.send_reliable.specs.declared.Found.the-variants as found
 use Rattle.send_reliable.specs.declared.Ack.{Ack}
 use Rattle.send_reliable.specs.declared.Ack.the-variants as ack
-use Rattle.send_reliable.specs.Sender.{noRow, pieceAt, Valid}
-use Rattle.send_reliable.specs.Ack.{rowOf, closed, without, ackOf, done, unknown, refused, After, after, ackRow, ackSmall, marked, withAck, ackPiece, AckGives}
-use Rattle.send_reliable.specs.QueueSteps.{foundOf, RowAt}
-use Rattle.words.proofs.Entries.{close-none, close-more}
-use Rattle.send_reliable.proofs.Valid.{without-small-valid, without-sliced-valid, marked-valid}
-
--- ---- closing up: before the first turn, a turn, and after the last
-
-abbrev pub withRows : SendChannelReliable → List Row → SendChannelReliable
-withRows s rows =
-    record {
-      «channel_id» = s .«channel_id»;
-      settings = s .settings;
-      «resend_time» = s .«resend_time»;
-      «next_reliable_message_id» = s .«next_reliable_message_id»;
-      «memory_usage_bytes» = s .«memory_usage_bytes»;
-      latest = s .latest;
-      count = s .count;
-      rows = rows;
-      cells = s .cells;
-      lanes = s .lanes;
-      pieces = s .pieces;
-    }
-
-module _ (s : SendChannelReliable) (k : ℕ) where
-  pub lower-none : s ≡ withRows s (paste (s .rows) k (drop (suc k) (s .rows)) (k - k))
-  lower-none = ap (λ (o : List Row). withRows s o) (close-none (s .rows) k)
-
-  module _ (t : SendChannelReliable) (i : ℕ) (et : t ≡ withRows s (paste (s .rows) k (drop (suc k) (s .rows)) (i - k))) where
-    pub lower-more : k ≤ i → i + 1 < length (s .rows)
-        → withRows t (set (t .rows) i (getD (t .rows) (i + 1) noRow)) ≡ withRows s (paste (s .rows) k (drop (suc k) (s .rows)) (i + 1 - k))
-    lower-more h l = rw et (ap (λ (o : List Row). withRows s o) (close-more (s .rows) k i noRow h l))
-
-    pub lower-all : (n : ℕ) (r : Row) → i ≡ n - 1 → r ≡ noRow → withRows t (set (t .rows) (n - 1) r) ≡ withRows s (closed (s .rows) k n)
-    lower-all n r e er = rw (et, er, e)
+use Rattle.send_reliable.specs.declared.AckSmall.{AckSmall}
+use Rattle.send_reliable.specs.declared.AckSmall.the-variants as small
+use Rattle.send_reliable.specs.declared.AckPiece.{AckPiece}
+use Rattle.send_reliable.specs.declared.AckPiece.the-variants as piece
+use Rattle.send_reliable.specs.Sender.{kindOf, noRow, pieceAt, Valid}
+use Rattle.send_reliable.specs.Ack.{rowOf, without, ackOf, done, unknown, refused, After, after, ackRow, smallKind, ackSmall, marked, withAck, pieceKind, ackPiece, AckGives}
+use Rattle.send_reliable.specs.QueueSteps.{foundOf, RowAt, onFound, smallAs, smallStep, pieceAs, pieceStep, ShortFound}
+use Rattle.send_reliable.proofs.Valid.{row-short, without-small-valid, without-sliced-valid, marked-valid}
 
 -- ---- the row that is found
 
 at-tests : (t : Bool) (i k : ℕ) (q r : Row) → pick t (found.At i q) found.Nothing ≡ found.At k r → (t ≡ true) × (i ≡ k) × (q ≡ r)
 at-tests true i k q r e = (refl, cc, cc)
 at-tests false i k q r e = clash (cc)
-
-nothing-tests : (t : Bool) (i : ℕ) (q : Row) → pick t (found.At i q) found.Nothing ≡ found.Nothing → t ≡ false
-nothing-tests true i q e = clash (cc)
-nothing-tests false i q e = refl
 
 module _ (s : SendChannelReliable) (x : ℕ) where
   module _ (k : ℕ) (r : Row) (h : foundOf s x ≡ found.At k r) where
@@ -73,23 +42,13 @@ module _ (s : SendChannelReliable) (x : ℕ) where
     pub found-row : RowAt s k r
     found-row = let t = here in record { low = rw (← t .1) (ltb-true _ _ (t .0)); row = rw (← t .1) (t .2) }
 
-  module _ (f : ℕ → Row → After) where
-    pub row-bad : LIMIT ≤ x → ackRow s x f ≡ after (refused 13) s
-    unfolding ackRow
-    row-bad h = rw (le-leb _ _ h)
-
-    module _ (low : x < LIMIT) where
-      pub row-unknown : foundOf s x ≡ found.Nothing → ackRow s x f ≡ after unknown s
-      unfolding ackRow foundOf
-      row-unknown h = let t = nothing-tests (ltb (rowOf s x) (s .count)) (rowOf s x) (getD (s .rows) (rowOf s x) noRow) h in rw (lt-leb _ _ low, t)
-
-      pub row-found : (k : ℕ) (r : Row) → foundOf s x ≡ found.At k r → ackRow s x f ≡ f k r
-      unfolding ackRow
-      row-found k r h = let t = here k r h in rw (lt-leb _ _ low, t .0, t .2, t .1)
+  pub row-found : (f : ℕ → Row → After) → x < LIMIT → (k : ℕ) (r : Row) → foundOf s x ≡ found.At k r → ackRow s x f ≡ f k r
+  unfolding ackRow
+  row-found f low k r h = let t = here k r h in rw (lt-leb _ _ low, t .0, t .2, t .1)
 
 -- ---- a piece acknowledged keeps what is always true
 
-module _ (s : SendChannelReliable) (v : Valid s) (k : ℕ) (r : Row) (at : RowAt s k r) (l a next : ℕ) (e : r .kind ≡ Sliced l a next) (i : ℕ) where
+module _ (s : SendChannelReliable) (v : Valid s) (k : ℕ) (r : Row) (at : RowAt s k r) (l a next : ℕ) (e : kindOf r ≡ Sliced l a next) (i : ℕ) where
   pub piece-again : pieceAt s l i .acked ≡ true → s ≡ withAck s k i r l a next
   unfolding withAck
   piece-again b = rw b
@@ -112,35 +71,121 @@ module _ (s : SendChannelReliable) (v : Valid s) (k : ℕ) (r : Row) (at : RowAt
       (λ _. without-sliced-valid s v k r at l a next e)
       (λ some. marked-valid s v k r at l a next e i m new (eqb-false _ _ some)))
 
--- ---- what an acknowledgement gives
+-- ---- what an acknowledgement gives, by what was found
 
-module _ (s : SendChannelReliable) (v : Valid s) where
+-- the two ways to tell what an ack gives agree
+on-found : {A : Type 0} (s : SendChannelReliable) (x : ℕ) (g : A → After) (bad none : A) (h : ℕ → Row → A) (f : ℕ → Row → After)
+    → g bad ≡ after (refused 13) s → g none ≡ after unknown s → ((k : ℕ) (r : Row) → g (h k r) ≡ f k r)
+    → ackRow s x f ≡ g (onFound bad none h x (foundOf s x))
+unfolding ackRow foundOf
+on-found s x g bad none h f eb en eh =
+    by-test (ltb (rowOf s x) (s .count))
+    (λ t. by-test (leb LIMIT x) (λ b. rw (t, b) (sym eb)) (λ b. rw (t, b) (sym (eh (rowOf s x) (getD (s .rows) (rowOf s x) noRow)))))
+    (λ t. by-test (leb LIMIT x) (λ b. rw (t, b) (sym eb)) (λ b. rw (t, b) (sym en)))
+
+module _ (s : SendChannelReliable) (v : Valid s) (x : ℕ) where
   pub ack-left : (a : Ack) (z : After) → z ≡ after (ackOf a) s → AckGives z (record { answer = a; state = s })
   ack-left a z e = record { answer = rw e; state = rw e; valid = v }
 
-  module _ (x : ℕ) (low : x < LIMIT) (k : ℕ) (r : Row) (h : foundOf s x ≡ found.At k r) where
-    pub small-wrong : (l a next : ℕ) → r .kind ≡ Sliced l a next → ackSmall s x ≡ after (refused 16) s
-    unfolding ackSmall
-    small-wrong l a next e = row-found s x _ low k r h ∙ rw e
+  -- what was found is no longer than a lane
+  pub short-found : (f : Found) → foundOf s x ≡ f → ShortFound f
+  short-found (found.At k r) e = row-short s v k r (found-row s x k r e)
+  short-found found.Nothing e = tt
 
-    pub small-done : (i : ℕ) (u : Sending) (t : SendChannelReliable) → r .kind ≡ Small i u → t ≡ without s k (r .len) (set (s .cells) i false) (s .lanes)
-        → AckGives (ackSmall s x) (record { answer = ack.Done; state = t })
-    unfolding ackSmall
-    small-done i u t e et =
-        let z : ackSmall s x ≡ after done (without s k (r .len) (set (s .cells) i false) (s .lanes)) = row-found s x _ low k r h ∙ rw e in
-        record { answer = rw z; state = rw z et; valid = rw et (without-small-valid s v k r (found-row s x k r h) i u e) }
+-- ---- a small message
 
-    pub piece-wrong : (i j : ℕ) (u : Sending) → r .kind ≡ Small j u → ackPiece s x i ≡ after (refused 16) s
-    unfolding ackPiece
-    piece-wrong i j u e = row-found s x _ low k r h ∙ rw e
+abbrev smallAfter : SendChannelReliable → AckSmall → After
+smallAfter s (small.Left a) = after (ackOf a) s
+smallAfter s (small.Gone k r i) = after done (without s k (r .len) (set (s .cells) i false) (s .lanes))
 
-    module _ (i l a next : ℕ) (e : r .kind ≡ Sliced l a next) where
-      pub piece-past : piecesOf (r .len) ≤ i → ackPiece s x i ≡ after (refused 17) s
-      unfolding ackPiece
-      piece-past m = row-found s x _ low k r h ∙ rw (e, le-leb _ _ m)
+small-kind : (s : SendChannelReliable) (k : ℕ) (r : Row) (kind : Kind) → smallAfter s (smallAs k r kind) ≡ smallKind s k r kind
+small-kind s k r (Small i t) = refl
+small-kind s k r (Sliced l a next) = refl
 
-      pub piece-done : i < piecesOf (r .len) → (t : SendChannelReliable) → t ≡ withAck s k i r l a next → AckGives (ackPiece s x i) (record { answer = ack.Done; state = t })
-      unfolding ackPiece
-      piece-done m t et =
-          let z : ackPiece s x i ≡ after done (withAck s k i r l a next) = row-found s x _ low k r h ∙ rw (e, lt-leb _ _ m) in
-          record { answer = rw z; state = rw z et; valid = rw et (with-ack-valid s v k r (found-row s x k r h) l a next e i m) }
+-- the message that goes: its row, its cell and its sending
+pub record SmallFound (s : SendChannelReliable) (k : ℕ) (r : Row) (i : ℕ) : Type 0 where
+  pub at : RowAt s k r
+  pub sending : Sending
+  pub kind : kindOf r ≡ Small i sending
+
+module _ (s : SendChannelReliable) (v : Valid s) (x : ℕ) where
+  small-is : ackSmall s x ≡ smallAfter s (smallStep x (foundOf s x))
+  unfolding ackSmall
+  small-is = on-found s x (smallAfter s) _ _ _ _ refl refl (λ k r. small-kind s k r (kindOf r))
+
+  gone-kind : (j k : ℕ) (q r : Row) (i : ℕ) (kind : Kind) → kindOf q ≡ kind → foundOf s x ≡ found.At j q → smallAs j q kind ≡ small.Gone k r i → SmallFound s k r i
+  gone-kind j k q r i (Small h t) e f g =
+      let z : found.At j q ≡ found.At k r = cc in
+      let w : q ≡ r = cc in
+      let m : h ≡ i = cc in
+      record { at = found-row s x k r (f ∙ z); sending = t; kind = rw (← w, ← m) e }
+  gone-kind j k q r i (Sliced l a next) e f g = clash (cc)
+
+  gone-found : (f : Found) → foundOf s x ≡ f → (k : ℕ) (r : Row) (i : ℕ) → smallStep x f ≡ small.Gone k r i → SmallFound s k r i
+  gone-found (found.At j q) f k r i =
+      by-test (leb LIMIT x) (λ b g. clash (let z = rw b at g in cc)) (λ b g. gone-kind j k q r i (kindOf q) refl f (rw b at g))
+  gone-found found.Nothing f k r i = by-test (leb LIMIT x) (λ b g. clash (let z = rw b at g in cc)) (λ b g. clash (let z = rw b at g in cc))
+
+  pub small-left : (a : Ack) → smallStep x (foundOf s x) ≡ small.Left a → AckGives (ackSmall s x) (record { answer = a; state = s })
+  small-left a e = ack-left s v x a (ackSmall s x) (small-is ∙ ap (smallAfter s) e)
+
+  module _ (k : ℕ) (r : Row) (i : ℕ) (e : smallStep x (foundOf s x) ≡ small.Gone k r i) where
+    pub small-found : SmallFound s k r i
+    small-found = gone-found (foundOf s x) refl k r i e
+
+    pub small-done : (t : SendChannelReliable) → t ≡ without s k (r .len) (set (s .cells) i false) (s .lanes) → AckGives (ackSmall s x) (record { answer = ack.Done; state = t })
+    small-done t et =
+        let z : ackSmall s x ≡ after done (without s k (r .len) (set (s .cells) i false) (s .lanes)) = small-is ∙ ap (smallAfter s) e in
+        let f = small-found in
+        record { answer = rw z; state = rw z et; valid = rw et (without-small-valid s v k r (f .at) i (f .sending) (f .kind)) }
+
+-- ---- a piece
+
+abbrev pieceAfter : SendChannelReliable → ℕ → AckPiece → After
+pieceAfter s i (piece.Left a) = after (ackOf a) s
+pieceAfter s i (piece.Marks k r l a next) = after done (withAck s k i r l a next)
+
+piece-kind : (s : SendChannelReliable) (k i : ℕ) (r : Row) (kind : Kind) → pieceAfter s i (pieceAs k i r kind) ≡ pieceKind s k i r kind
+piece-kind s k i r (Small j t) = refl
+piece-kind s k i r (Sliced l a next) = by-test (leb (piecesOf (r .len)) i) (λ b. rw b) (λ b. rw b)
+
+-- the message whose piece it is, and its kind
+pub record PieceFound (s : SendChannelReliable) (i k : ℕ) (r : Row) (l a next : ℕ) : Type 0 where
+  pub at : RowAt s k r
+  pub kind : kindOf r ≡ Sliced l a next
+  pub low : i < piecesOf (r .len)
+
+module _ (s : SendChannelReliable) (v : Valid s) (x i : ℕ) where
+  piece-is : ackPiece s x i ≡ pieceAfter s i (pieceStep x i (foundOf s x))
+  unfolding ackPiece
+  piece-is = on-found s x (pieceAfter s i) _ _ _ _ refl refl (λ k r. piece-kind s k i r (kindOf r))
+
+  marks-kind : (j k : ℕ) (q r : Row) (l a next : ℕ) (kind : Kind) → kindOf q ≡ kind → foundOf s x ≡ found.At j q → pieceAs j i q kind ≡ piece.Marks k r l a next
+      → PieceFound s i k r l a next
+  marks-kind j k q r l a next (Small h t) e f = λ g. clash (cc)
+  marks-kind j k q r l a next (Sliced m b c) e f =
+      by-test (leb (piecesOf (q .len)) i) (λ past g. clash (let z = rw past at g in cc))
+      (λ past g.
+      let y : piece.Marks j q m b c ≡ piece.Marks k r l a next = rw past at g in
+      let z : found.At j q ≡ found.At k r = cc in
+      let w : q ≡ r = cc in
+      let n : Sliced m b c ≡ Sliced l a next = cc in
+      record { at = found-row s x k r (f ∙ z); kind = rw (← w) (e ∙ n); low = rw (← w) (leb-false _ _ past) })
+
+  marks-found : (f : Found) → foundOf s x ≡ f → (k : ℕ) (r : Row) (l a next : ℕ) → pieceStep x i f ≡ piece.Marks k r l a next → PieceFound s i k r l a next
+  marks-found (found.At j q) f k r l a next =
+      by-test (leb LIMIT x) (λ b g. clash (let z = rw b at g in cc)) (λ b g. marks-kind j k q r l a next (kindOf q) refl f (rw b at g))
+  marks-found found.Nothing f k r l a next = by-test (leb LIMIT x) (λ b g. clash (let z = rw b at g in cc)) (λ b g. clash (let z = rw b at g in cc))
+
+  pub piece-left : (a : Ack) → pieceStep x i (foundOf s x) ≡ piece.Left a → AckGives (ackPiece s x i) (record { answer = a; state = s })
+  piece-left a e = ack-left s v x a (ackPiece s x i) (piece-is ∙ ap (pieceAfter s i) e)
+
+  module _ (k : ℕ) (r : Row) (l a next : ℕ) (e : pieceStep x i (foundOf s x) ≡ piece.Marks k r l a next) where
+    pub piece-found : PieceFound s i k r l a next
+    piece-found = marks-found (foundOf s x) refl k r l a next e
+
+    pub piece-done : (t : SendChannelReliable) → t ≡ withAck s k i r l a next → AckGives (ackPiece s x i) (record { answer = ack.Done; state = t })
+    piece-done t et =
+        let z : ackPiece s x i ≡ after done (withAck s k i r l a next) = piece-is ∙ ap (pieceAfter s i) e in
+        let f = piece-found in
+        record { answer = rw z; state = rw z et; valid = rw et (with-ack-valid s v k r (f .at) l a next (f .kind) i (f .low)) }

@@ -19,13 +19,13 @@ use Rattle.channel.specs.Settings.{settingsRefusal, leastSettings, smallLen, la
 use Rattle.channel.specs.declared.Settings.{Settings}
 use Rattle.channel.specs.declared.Setup.the-variants as setup
 use Rattle.channel.proofs.Good.{good, least-good, stores-room}
-use Rattle.channel.proofs.Unique.{numbered-above}
+use Rattle.words.proofs.Unique.{numbered-above}
 use Rattle.send_reliable.specs.declared.Piece.{Piece}
 use Rattle.send_reliable.specs.declared.SendChannelReliable.{SendChannelReliable}
 use Rattle.send_reliable.specs.declared.Queue.the-variants as queue
 use Rattle.send_reliable.specs.Sender.{noPiece, newOf, Valid, MadeGives}
-use Rattle.send_reliable.specs.Queue.{queueRefusal, cell, lane, refused, freeSpot, spotOf, addSmall, addSliced, QueueGives}
-use Rattle.send_reliable.specs.QueueSteps.{RowFits}
+use Rattle.send_reliable.specs.Queue.{queueRefusal, cell, lane, refused, freeIn, freeSpot, spotOf, addSmall, addSliced, QueueGives}
+use Rattle.send_reliable.specs.QueueSteps.{spotIn, RowFits}
 use Rattle.send_reliable.proofs.Valid.{new-valid, CellFree, LaneFree, add-small-valid, add-sliced-valid}
 
 -- ---- a new sender
@@ -39,28 +39,23 @@ module _ (channel : ℕ) (s : Settings) (resend : ℕ) (t : SendChannelReliable)
 
 -- ---- where a message goes, by the tests that led there
 
-module _ (s : SendChannelReliable) (n small lane : ℕ) where
-  pub bad-store : storesHold (s .settings) small lane ≡ false → refused 10 ≡ spotOf s n small lane
-  unfolding spotOf queueRefusal
+module _ (st : Settings) (next used i l n small lanes : ℕ) where
+  pub bad-store : storesHold st small lanes ≡ false → refused 10 ≡ spotIn st next used i l n small lanes
   bad-store h = rw h
 
-  module _ (h : storesHold (s .settings) small lane ≡ true) where
-    pub no-number : LIMIT ≤ s .«next_reliable_message_id» → refused 13 ≡ spotOf s n small lane
-    unfolding spotOf queueRefusal
+  module _ (h : storesHold st small lanes ≡ true) where
+    pub no-number : LIMIT ≤ next → refused 13 ≡ spotIn st next used i l n small lanes
     no-number m = rw (h, le-leb _ _ m)
 
-    module _ (ids : s .«next_reliable_message_id» < LIMIT) where
-      pub too-long : s .settings .pieces * SLICE_SIZE < n → refused 12 ≡ spotOf s n small lane
-      unfolding spotOf queueRefusal
+    module _ (ids : next < LIMIT) where
+      pub too-long : st .pieces * SLICE_SIZE < n → refused 12 ≡ spotIn st next used i l n small lanes
       too-long m = rw (h, lt-leb _ _ ids, lt-ltb _ _ m)
 
-      module _ (limit : n ≤ s .settings .pieces * SLICE_SIZE) where
-        pub no-memory : s .settings .«max_memory_usage_bytes» < s .«memory_usage_bytes» + n → refused 7 ≡ spotOf s n small lane
-        unfolding spotOf queueRefusal
+      module _ (limit : n ≤ st .pieces * SLICE_SIZE) where
+        pub no-memory : st .«max_memory_usage_bytes» < used + n → refused 7 ≡ spotIn st next used i l n small lanes
         no-memory m = rw (h, lt-leb _ _ ids, le-ltb _ _ limit, lt-ltb _ _ m)
 
-        pub goes : s .«memory_usage_bytes» + n ≤ s .settings .«max_memory_usage_bytes» → freeSpot s n ≡ spotOf s n small lane
-        unfolding spotOf queueRefusal
+        pub goes : used + n ≤ st .«max_memory_usage_bytes» → freeIn st i l n ≡ spotIn st next used i l n small lanes
         goes m = rw (h, lt-leb _ _ ids, le-ltb _ _ limit, le-ltb _ _ m)
 
 -- ---- what is so where it goes to a cell or a lane

@@ -29,14 +29,14 @@ use Rattle.pack.specs.declared.Went.{Went}
 use Rattle.pack.specs.declared.Went.the-variants as went
 use Rattle.pack.proofs.Pieces.{piece-most}
 use Rattle.pack.proofs.Tables.{items-put}
-use Rattle.pack.proofs.Round.{numbered-above}
+use Rattle.words.proofs.Unique.{numbered-above}
 use Rattle.send_reliable.specs.declared.Sending.{Sending}
 use Rattle.send_reliable.specs.declared.Kind.the-variants.{Small, Sliced}
 use Rattle.send_reliable.specs.declared.Row.{Row}
 use Rattle.send_reliable.specs.declared.Piece.{Piece}
 use Rattle.send_reliable.specs.declared.SendChannelReliable.{SendChannelReliable}
 use Rattle.send_reliable.specs.declared.Selected.{Selected}
-use Rattle.send_reliable.specs.Sender.{ROWS, noRow, noPiece, live, Valid}
+use Rattle.send_reliable.specs.Sender.{lastSent, kindOf, asRow, ROWS, noRow, noPiece, live, Valid}
 use Rattle.send_reliable.specs.Select.{Visit, visitsFrom, sentAt, Chosen, visit, unvisited, select, withChosen}
 use Rattle.send_reliable.specs.RoundSteps.{VISIT, visitAt, visitsIn, goes, Selects}
 use Rattle.send_reliable.specs.Round.{Given, entryRefusal, packs, lent, refusalOf, stateAfter, RoundGives}
@@ -121,20 +121,20 @@ module _ {s : SendChannelReliable} {now a : ℕ} {visits : List ℕ} {v m left :
   passed : visiting s now (chosenBy left items m t) (visitAt visits v) ≡ chosenBy left items m t → ChosenTo s now a (v + 1) m left t items
   passed e = record { chosen = sym e ∙ k .next; state = k .state }
 
-  module _ (cell : ℕ) (last : Sending) (e : r .kind ≡ Small cell last) where
+  module _ (cell : ℕ) (last : Sending) (e : kindOf r ≡ Small cell last) where
     abbrev small-rows : List Row
-    small-rows = set (t .rows) (getD visits (VISIT * v) 0) (record { id = r .id; len = r .len; kind = Small cell (sentAt now) })
+    small-rows = set (t .rows) (getD visits (VISIT * v) 0) (asRow (r .id) (r .len) (Small cell (sentAt now)))
 
     pub at-small : SmallHere s now r cell last
     at-small = small-here s now (chosenBy left items m t) (k .kept) (visitAt visits v) (k .within) cell last e
 
-    pub small-covered : goes (s .«resend_time») now left (r .len) (last .«last_sent») ≡ true → r .len ≤ left
-    small-covered g = enough (s .«resend_time») now left (r .len) (last .«last_sent») g
+    pub small-covered : goes (s .«resend_time») now left (r .len) (lastSent last) ≡ true → r .len ≤ left
+    small-covered g = enough (s .«resend_time») now left (r .len) (lastSent last) g
 
-    pub small-passed : goes (s .«resend_time») now left (r .len) (last .«last_sent») ≡ false → ChosenTo s now a (v + 1) m left t items
+    pub small-passed : goes (s .«resend_time») now left (r .len) (lastSent last) ≡ false → ChosenTo s now a (v + 1) m left t items
     small-passed g = passed (visit-small (s .settings) (s .«resend_time») now (chosenBy left items m t) (visitAt visits v) cell last e ∙ rw g)
 
-    pub small-chosen : goes (s .«resend_time») now left (r .len) (last .«last_sent») ≡ true
+    pub small-chosen : goes (s .«resend_time») now left (r .len) (lastSent last) ≡ true
         → ITEM * (m + 1) ≤ length items
         → (items' : List ℕ) → items' ≡ splice (ITEM * m) (itemWords (record { num = 0; id = r .id .0; index = 0; place = cell * SLICE_SIZE; len = r .len })) items
         → ChosenTo s now a (v + 1) (m + 1) (left - r .len)
@@ -145,12 +145,12 @@ module _ {s : SendChannelReliable} {now a : ℕ} {visits : List ℕ} {v m left :
           state = ap (λ (u : SendChannelReliable). put u small-rows (t .pieces)) (k .state);
         }
 
-  module _ (l b next : ℕ) (e : r .kind ≡ Sliced l b next) where
+  module _ (l b next : ℕ) (e : kindOf r ≡ Sliced l b next) where
     abbrev p : Piece
     p = getD (t .pieces) (l * PIECES + i) noPiece
 
     abbrev piece-rows : List Row
-    piece-rows = set (t .rows) (getD visits (VISIT * v) 0) (record { id = r .id; len = r .len; kind = Sliced l b (i + 1) })
+    piece-rows = set (t .rows) (getD visits (VISIT * v) 0) (asRow (r .id) (r .len) (Sliced l b (i + 1)))
 
     abbrev sent-pieces : List Piece
     sent-pieces = set (t .pieces) (l * PIECES + i) (record { acked = p .acked; sending = sentAt now })
@@ -158,11 +158,11 @@ module _ {s : SendChannelReliable} {now a : ℕ} {visits : List ℕ} {v m left :
     pub at-piece : PieceHere s now (chosenBy left items m t) r l b i
     at-piece = piece-here s now (chosenBy left items m t) (k .kept) (visitAt visits v) (k .within) l b next e
 
-    pub piece-covered : goes (s .«resend_time») now left SLICE_SIZE (p .sending .«last_sent») ≡ true → pieceLen (r .len) i ≤ left
-    piece-covered g = omega (arith, enough (s .«resend_time») now left SLICE_SIZE (p .sending .«last_sent») g, piece-most (r .len) i (at-piece .piece))
+    pub piece-covered : goes (s .«resend_time») now left SLICE_SIZE (lastSent (p .sending)) ≡ true → pieceLen (r .len) i ≤ left
+    piece-covered g = omega (arith, enough (s .«resend_time») now left SLICE_SIZE (lastSent (p .sending)) g, piece-most (r .len) i (at-piece .piece))
 
     abbrev tests : Bool
-    tests = pick (p .acked) false (goes (s .«resend_time») now left SLICE_SIZE (p .sending .«last_sent»))
+    tests = pick (p .acked) false (goes (s .«resend_time») now left SLICE_SIZE (lastSent (p .sending)))
 
     piece-passed : tests ≡ false → ChosenTo s now a (v + 1) m left t items
     piece-passed g = passed (visit-piece (s .settings) (s .«resend_time») now (chosenBy left items m t) (visitAt visits v) l b next e ∙ rw g)
@@ -171,10 +171,10 @@ module _ {s : SendChannelReliable} {now a : ℕ} {visits : List ℕ} {v m left :
     pub piece-acked : not (p .acked) ≡ false → ChosenTo s now a (v + 1) m left t items
     piece-acked u = piece-passed (rw (not-false (p .acked) u))
 
-    pub piece-stays : not (p .acked) ≡ true → goes (s .«resend_time») now left SLICE_SIZE (p .sending .«last_sent») ≡ false → ChosenTo s now a (v + 1) m left t items
+    pub piece-stays : not (p .acked) ≡ true → goes (s .«resend_time») now left SLICE_SIZE (lastSent (p .sending)) ≡ false → ChosenTo s now a (v + 1) m left t items
     piece-stays u g = piece-passed (rw (not-true (p .acked) u) g)
 
-    pub piece-chosen : not (p .acked) ≡ true → goes (s .«resend_time») now left SLICE_SIZE (p .sending .«last_sent») ≡ true
+    pub piece-chosen : not (p .acked) ≡ true → goes (s .«resend_time») now left SLICE_SIZE (lastSent (p .sending)) ≡ true
         → ITEM * (m + 1) ≤ length items → (items' : List ℕ) (num size : ℕ) → num ≡ piecesOf (r .len) → size ≡ pieceLen (r .len) i
         → items' ≡ splice (ITEM * m) (itemWords (record { num = num; id = r .id .0; index = i; place = l * laneLen (s .settings) + i * SLICE_SIZE; len = size })) items
         → ChosenTo s now a (v + 1) (m + 1) (left - size)

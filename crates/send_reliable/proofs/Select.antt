@@ -28,10 +28,11 @@ use Rattle.send_reliable.specs.declared.Kind.the-variants.{Small, Sliced
 use Rattle.send_reliable.specs.declared.Row.{Row}
 use Rattle.send_reliable.specs.declared.Piece.{Piece}
 use Rattle.send_reliable.specs.declared.SendChannelReliable.{SendChannelReliable}
-use Rattle.send_reliable.specs.Sender.{noRow, noPiece, live, SentBy, ackedPieces, PlacedKind, Placed, Apart, Before, Valid}
+use Rattle.send_reliable.specs.Sender.{lastSent, kindOf, asRow, noRow, noPiece, live, SentBy, ackedPieces, PlacedKind, Placed, Apart, Before, Valid}
 use Rattle.send_reliable.specs.Select.{Visit, visitsFrom, due, sentAt, Chosen, withSmall, withPiece, visitKind, visit, unvisited, select, withChosen}
 use Rattle.send_reliable.specs.RoundSteps.{goes}
 use Rattle.words.proofs.Entries.{all-set, pairs-anew}
+use Rattle.send_reliable.proofs.Valid.{row-id, row-len, row-kind}
 use Rattle.send_reliable.proofs.RoundLists.{reached-keeps, same-set, total-part}
 use Rattle.send_reliable.proofs.Visits.{sizeRow, Within, length-live, visits-within}
 
@@ -56,21 +57,21 @@ module _ (st : Settings) (resend now : ℕ) (c : Chosen) (v : Visit) where
   abbrev row : Row
   row = getD (c .rows) (v .row) noRow
 
-  pub visit-small : (i : ℕ) (t : Sending) → row .kind ≡ Small i t
-      → visit st resend now c v ≡ pick (goes resend now (c .left) (row .len) (t .«last_sent»)) (withSmall st resend now c (v .row) row i) c
+  pub visit-small : (i : ℕ) (t : Sending) → kindOf row ≡ Small i t
+      → visit st resend now c v ≡ pick (goes resend now (c .left) (row .len) (lastSent t)) (withSmall st resend now c (v .row) row i) c
   unfolding visit
   visit-small i t e =
       ap (visitKind st resend now c (v .row) (v .piece) row) e
-      ∙ both (ltb (c .left) (row .len)) (due resend now (t .«last_sent»)) (withSmall st resend now c (v .row) row i) c
+      ∙ both (ltb (c .left) (row .len)) (due resend now (lastSent t)) (withSmall st resend now c (v .row) row i) c
 
-  pub visit-piece : (l a next : ℕ) → row .kind ≡ Sliced l a next
+  pub visit-piece : (l a next : ℕ) → kindOf row ≡ Sliced l a next
       → visit st resend now c v
-      ≡ pick (pick (pieceOf c l (v .piece) .acked) false (goes resend now (c .left) SLICE_SIZE (pieceOf c l (v .piece) .sending .«last_sent»)))
+      ≡ pick (pick (pieceOf c l (v .piece) .acked) false (goes resend now (c .left) SLICE_SIZE (lastSent (pieceOf c l (v .piece) .sending))))
       (withPiece st resend now c (v .row) (v .piece) row l a (pieceOf c l (v .piece))) c
   unfolding visit
   visit-piece l a next e =
       ap (visitKind st resend now c (v .row) (v .piece) row) e
-      ∙ three (ltb (c .left) SLICE_SIZE) (pieceOf c l (v .piece) .acked) (due resend now (pieceOf c l (v .piece) .sending .«last_sent»))
+      ∙ three (ltb (c .left) SLICE_SIZE) (pieceOf c l (v .piece) .acked) (due resend now (lastSent (pieceOf c l (v .piece) .sending)))
       (withPiece st resend now c (v .row) (v .piece) row l a (pieceOf c l (v .piece))) c
 
 -- what goes is covered by what is left
@@ -83,18 +84,18 @@ unacked false g e = e
 
 -- a visit changes nothing, or a small message goes, or a piece
 module _ (st : Settings) (resend now : ℕ) (P : Chosen → Type 0) (c : Chosen) (v : Visit) (stays : P c) where
-  pub by-visit : ((i : ℕ) (t : Sending) → row st resend now c v .kind ≡ Small i t → row st resend now c v .len ≤ c .left → P (withSmall st resend now c (v .row) (row st resend now c v) i))
-      → ((l a next : ℕ) → row st resend now c v .kind ≡ Sliced l a next → SLICE_SIZE ≤ c .left → P (withPiece st resend now c (v .row) (v .piece) (row st resend now c v) l a (pieceOf c l (v .piece))))
+  pub by-visit : ((i : ℕ) (t : Sending) → kindOf (row st resend now c v) ≡ Small i t → row st resend now c v .len ≤ c .left → P (withSmall st resend now c (v .row) (row st resend now c v) i))
+      → ((l a next : ℕ) → kindOf (row st resend now c v) ≡ Sliced l a next → SLICE_SIZE ≤ c .left → P (withPiece st resend now c (v .row) (v .piece) (row st resend now c v) l a (pieceOf c l (v .piece))))
       → P (visit st resend now c v)
-  by-visit small piece = by-kind (row st resend now c v .kind) refl where
-    by-kind : (kind : Kind) → row st resend now c v .kind ≡ kind → P (visit st resend now c v)
+  by-visit small piece = by-kind (kindOf (row st resend now c v)) refl where
+    by-kind : (kind : Kind) → kindOf (row st resend now c v) ≡ kind → P (visit st resend now c v)
     by-kind (Small i t) e =
         rw (visit-small st resend now c v i t e)
-        (pick-cases P (goes resend now (c .left) (row st resend now c v .len) (t .«last_sent»)) (λ g. small i t e (enough resend now (c .left) (row st resend now c v .len) (t .«last_sent») g)) (λ g. stays))
+        (pick-cases P (goes resend now (c .left) (row st resend now c v .len) (lastSent t)) (λ g. small i t e (enough resend now (c .left) (row st resend now c v .len) (lastSent t) g)) (λ g. stays))
     by-kind (Sliced l a next) e =
         rw (visit-piece st resend now c v l a next e)
-        (pick-cases P (pick (pieceOf c l (v .piece) .acked) false (goes resend now (c .left) SLICE_SIZE (pieceOf c l (v .piece) .sending .«last_sent»)))
-        (λ g. piece l a next e (enough resend now (c .left) SLICE_SIZE (pieceOf c l (v .piece) .sending .«last_sent») (unacked (pieceOf c l (v .piece) .acked) (goes resend now (c .left) SLICE_SIZE (pieceOf c l (v .piece) .sending .«last_sent»)) g)))
+        (pick-cases P (pick (pieceOf c l (v .piece) .acked) false (goes resend now (c .left) SLICE_SIZE (lastSent (pieceOf c l (v .piece) .sending))))
+        (λ g. piece l a next e (enough resend now (c .left) SLICE_SIZE (lastSent (pieceOf c l (v .piece) .sending)) (unacked (pieceOf c l (v .piece) .acked) (goes resend now (c .left) SLICE_SIZE (lastSent (pieceOf c l (v .piece) .sending))) g)))
         (λ g. stays))
 
 -- ---- a sender stays valid
@@ -106,7 +107,7 @@ module _ (s : SendChannelReliable) (now : ℕ) where
 
   later-kind : (a n : ℕ) (kind : Kind) → s .latest ≤ now → PlacedKind s n kind → PlacedKind (withChosen s now (unvisited s a)) n kind
   unfolding ackedPieces
-  later-kind a n (Small i t) h p = (p .0, p .1, p .2, later (t .«last_sent») h (p .3))
+  later-kind a n (Small i t) h p = (p .0, p .1, p .2, later (lastSent t) h (p .3))
   later-kind a n (Sliced l b k) h p = p
 
   -- before the first visit, the clock moved on
@@ -123,9 +124,9 @@ module _ (s : SendChannelReliable) (now : ℕ) where
         counted = v .counted;
         usage = v .usage;
         usage-most = v .usage-most;
-        placed = all-map (Placed s) (Placed (withChosen s now (unvisited s a))) (λ r p. (p .0, later-kind a (r .len) (r .kind) h (p .1))) (live s) (v .placed);
+        placed = all-map (Placed s) (Placed (withChosen s now (unvisited s a))) (λ r p. (p .0, later-kind a (r .len) (kindOf r) h (p .1))) (live s) (v .placed);
         rising = v .rising;
-        pieces-sent = all-map (λ (p : Piece). SentBy (s .latest) (p .sending .«last_sent»)) (λ p. SentBy now (p .sending .«last_sent»)) (λ p. later (p .sending .«last_sent») h) (s .pieces) (v .pieces-sent);
+        pieces-sent = all-map (λ (p : Piece). SentBy (s .latest) (lastSent (p .sending))) (λ p. SentBy now (lastSent (p .sending))) (λ p. later (lastSent (p .sending)) h) (s .pieces) (v .pieces-sent);
       }
 
   -- other sendings, the same acknowledgements
@@ -140,7 +141,7 @@ module _ (s : SendChannelReliable) (now : ℕ) where
     old = getD (c .rows) k noRow
 
     abbrev again : Row
-    again = record { id = old .id; len = old .len; kind = kind }
+    again = asRow (old .id) (old .len) kind
 
     abbrev after : Chosen
     after = record { left = c .left; items = c .items; rows = set (c .rows) k again; pieces = ps }
@@ -158,8 +159,8 @@ module _ (s : SendChannelReliable) (now : ℕ) where
     put-front = take-set-lt (s .count) (c .rows) k again h
 
     kept : length ps ≡ length (c .pieces) → ((l n : ℕ) → ackedPieces (withChosen s now after) l n ≡ ackedPieces (withChosen s now c) l n)
-        → All (λ (p : Piece). SentBy now (p .sending .«last_sent»)) ps → PlacedKind (withChosen s now after) (old .len) kind
-        → ((o : Kind) → Apart o (old .kind) → Apart o kind) → ((o : Kind) → Apart (old .kind) o → Apart kind o) → Valid (withChosen s now after)
+        → All (λ (p : Piece). SentBy now (lastSent (p .sending))) ps → PlacedKind (withChosen s now after) (old .len) kind
+        → ((o : Kind) → Apart o (kindOf old) → Apart o kind) → ((o : Kind) → Apart (kindOf old) o → Apart kind o) → Valid (withChosen s now after)
     unfolding Placed Before
     kept long same sent here left-of right-of =
         record {
@@ -170,17 +171,18 @@ module _ (s : SendChannelReliable) (now : ℕ) where
           lanes-long = v .lanes-long;
           pieces-long = long ∙ v .pieces-long;
           counted = v .counted;
-          usage = v .usage ∙ sym (total-part (λ r. r .len) (c .rows) 0 (s .count) k again noRow refl);
+          usage = v .usage ∙ sym (total-part (λ r. r .len) (c .rows) 0 (s .count) k again noRow (row-len (old .id) (old .len) kind));
           usage-most = v .usage-most;
           placed =
               rw put-front
               (all-set (Placed (withChosen s now after)) (take (s .count) (c .rows)) k again
-              (all-map (Placed (withChosen s now c)) (Placed (withChosen s now after)) (λ r p. (p .0, same-kind c after same (r .len) (r .kind) (p .1))) (take (s .count) (c .rows)) (v .placed))
-              (old-placed .0, here));
+              (all-map (Placed (withChosen s now c)) (Placed (withChosen s now after)) (λ r p. (p .0, same-kind c after same (r .len) (kindOf r) (p .1))) (take (s .count) (c .rows)) (v .placed))
+              (rw (row-id (old .id) (old .len) kind, row-len (old .id) (old .len) kind, row-kind (old .id) (old .len) kind) (old-placed .0, here)));
           rising =
               rw put-front
               (pairs-anew Before (take (s .count) (c .rows)) k noRow again in-front
-              (λ z b. let p = rw old-front at b in (p .0, left-of (z .kind) (p .1))) (λ z b. let p = rw old-front at b in (p .0, right-of (z .kind) (p .1))) (v .rising));
+              (λ z b. let p = rw old-front at b in rw (row-id (old .id) (old .len) kind, row-kind (old .id) (old .len) kind) (p .0, left-of (kindOf z) (p .1)))
+              (λ z b. let p = rw old-front at b in rw (row-id (old .id) (old .len) kind, row-kind (old .id) (old .len) kind) (p .0, right-of (kindOf z) (p .1))) (v .rising));
           pieces-sent = sent;
         }
 
@@ -214,7 +216,7 @@ pub record SmallHere (s : SendChannelReliable) (now : ℕ) (r : Row) (i : ℕ) (
   pub low : i < s .settings .slots
   pub held : getD (s .cells) i false ≡ true
   pub short : r .len ≤ SLICE_SIZE
-  pub sent : SentBy now (t .«last_sent»)
+  pub sent : SentBy now (lastSent t)
 
 pub record PieceHere (s : SendChannelReliable) (now : ℕ) (c : Chosen) (r : Row) (l a i : ℕ) : Type 0 where
   pub known : r .id .0 < s .«next_reliable_message_id»
@@ -227,7 +229,7 @@ pub record PieceHere (s : SendChannelReliable) (now : ℕ) (c : Chosen) (r : Row
   pub piece : i < piecesOf (r .len)
   pub most : piecesOf (r .len) ≤ PIECES
   pub entry : l * PIECES + i < LANES * PIECES
-  pub sent : SentBy now (pieceOf c l i .sending .«last_sent»)
+  pub sent : SentBy now (lastSent (pieceOf c l i .sending))
 
 module _ (s : SendChannelReliable) (now : ℕ) (c : Chosen) (w : Kept s now c) (x : Visit) (q : Within (s .count) (λ k. sizeRow (getD (s .rows) k noRow)) x) where
   abbrev here : Row
@@ -236,13 +238,13 @@ module _ (s : SendChannelReliable) (now : ℕ) (c : Chosen) (w : Kept s now c) (
   placed-here : Placed (withChosen s now c) here
   placed-here = old-placed s now c (w .valid) (x .row) (q .0) (Small 0 (sentAt now)) []
 
-  pub small-here : (i : ℕ) (t : Sending) → here .kind ≡ Small i t → SmallHere s now here i t
+  pub small-here : (i : ℕ) (t : Sending) → kindOf here ≡ Small i t → SmallHere s now here i t
   unfolding Placed
   small-here i t e =
       let p = rw e at (placed-here .1) in
       record { known = placed-here .0; low = p .0; held = p .1; short = p .2; sent = p .3 }
 
-  pub piece-here : (l a next : ℕ) → here .kind ≡ Sliced l a next → PieceHere s now c here l a (x .piece)
+  pub piece-here : (l a next : ℕ) → kindOf here ≡ Sliced l a next → PieceHere s now c here l a (x .piece)
   unfolding Placed
   piece-here l a next e =
       let p = rw e at (placed-here .1) in
@@ -262,10 +264,10 @@ module _ (s : SendChannelReliable) (now : ℕ) (c : Chosen) (w : Kept s now c) (
         piece = i;
         most = m;
         entry = j;
-        sent = all-at (λ (p : Piece). SentBy now (p .sending .«last_sent»)) (c .pieces) (l * PIECES + x .piece) noPiece (omega (arith, v .pieces-long)) (v .pieces-sent);
+        sent = all-at (λ (p : Piece). SentBy now (lastSent (p .sending))) (c .pieces) (l * PIECES + x .piece) noPiece (omega (arith, v .pieces-long)) (v .pieces-sent);
       }
 
-  small-kept : (i : ℕ) (t : Sending) → here .kind ≡ Small i t → Kept s now (withSmall (s .settings) (s .«resend_time») now c (x .row) here i)
+  small-kept : (i : ℕ) (t : Sending) → kindOf here ≡ Small i t → Kept s now (withSmall (s .settings) (s .«resend_time») now c (x .row) here i)
   unfolding ackedPieces
   small-kept i t e =
       let g = small-here i t e in
@@ -274,10 +276,10 @@ module _ (s : SendChannelReliable) (now : ℕ) (c : Chosen) (w : Kept s now c) (
             kept s now c (w .valid) (x .row) (q .0) (Small i (sentAt now)) (c .pieces) refl (λ l n. refl) (w .valid .pieces-sent)
             (g .low, g .held, g .short, omega arith)
             (λ o p. small-left i t (sentAt now) o (rw e at p)) (λ o p. small-right i t (sentAt now) o (rw e at p));
-        sizes = λ k. same-set sizeRow (c .rows) (x .row) (record { id = here .id; len = here .len; kind = Small i (sentAt now) }) noRow (rw e) k ∙ w .sizes k;
+        sizes = λ k. same-set sizeRow (c .rows) (x .row) (asRow (here .id) (here .len) (Small i (sentAt now))) noRow (rw e) k ∙ w .sizes k;
       }
 
-  piece-kept : (l a next : ℕ) → here .kind ≡ Sliced l a next → Kept s now (withPiece (s .settings) (s .«resend_time») now c (x .row) (x .piece) here l a (pieceOf c l (x .piece)))
+  piece-kept : (l a next : ℕ) → kindOf here ≡ Sliced l a next → Kept s now (withPiece (s .settings) (s .«resend_time») now c (x .row) (x .piece) here l a (pieceOf c l (x .piece)))
   unfolding ackedPieces
   piece-kept l a next e =
       let g = piece-here l a next e in
@@ -288,10 +290,10 @@ module _ (s : SendChannelReliable) (now : ℕ) (c : Chosen) (w : Kept s now c) (
       record {
         valid =
             kept s now c (w .valid) (x .row) (q .0) (Sliced l a (x .piece + 1)) (set (c .pieces) j y) (length-set (c .pieces) j y) same
-            (all-set (λ (p : Piece). SentBy now (p .sending .«last_sent»)) (c .pieces) j y (w .valid .pieces-sent) (omega arith))
+            (all-set (λ (p : Piece). SentBy now (lastSent (p .sending))) (c .pieces) j y (w .valid .pieces-sent) (omega arith))
             (g .low, g .held, g .long, g .fits, g .acked ∙ sym (same l (here .len)), g .fewer, omega (arith, g .piece))
             (λ o p. sliced-left l a next (x .piece + 1) o (rw e at p)) (λ o p. sliced-right l a next (x .piece + 1) o (rw e at p));
-        sizes = λ k. same-set sizeRow (c .rows) (x .row) (record { id = here .id; len = here .len; kind = Sliced l a (x .piece + 1) }) noRow (rw e) k ∙ w .sizes k;
+        sizes = λ k. same-set sizeRow (c .rows) (x .row) (asRow (here .id) (here .len) (Sliced l a (x .piece + 1))) noRow (rw e) k ∙ w .sizes k;
       }
 
   pub visit-keeps : Kept s now (visit (s .settings) (s .«resend_time») now c x)
@@ -327,14 +329,14 @@ module _ (s : SendChannelReliable) (v : Valid s) (now : ℕ) (h : s .latest ≤ 
     stores = record { ids = true; channel = s .«channel_id»; small = small; lanes = lanes }
 
     module _ (c : Chosen) (w : Kept s now c) (x : Visit) (q : Within (s .count) (λ k. sizeRow (getD (s .rows) k noRow)) x) where
-      small-goes : (i : ℕ) (t : Sending) → here s now c w x q .kind ≡ Small i t
+      small-goes : (i : ℕ) (t : Sending) → kindOf (here s now c w x q) ≡ Small i t
           → rows.Chosen stores (record { num = 0; id = here s now c w x q .id .0; index = 0; place = i * SLICE_SIZE; len = here s now c w x q .len })
       small-goes i t e =
           let g = small-here s now c w x q i t e in
           let m = v .next-most in
           record { num = omega arith; id = omega arith; index = omega arith; stored = omega arith; len = g .short }
 
-      piece-goes : (l b next : ℕ) → here s now c w x q .kind ≡ Sliced l b next
+      piece-goes : (l b next : ℕ) → kindOf (here s now c w x q) ≡ Sliced l b next
           → rows.Chosen stores (record {
             num = piecesOf (here s now c w x q .len);
             id = here s now c w x q .id .0;

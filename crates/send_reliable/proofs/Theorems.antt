@@ -34,12 +34,12 @@ use Rattle.send_reliable.specs.declared.Found.the-variants.{At}
 use Rattle.send_reliable.specs.declared.Ack.{Ack}
 use Rattle.send_reliable.specs.declared.Ack.the-variants as ack
 use Rattle.send_reliable.specs.declared.Acked.{Acked}
-use Rattle.send_reliable.specs.Sender.{noRow, live, pieceAt, Placed, Before, Valid, MadeGives}
+use Rattle.send_reliable.specs.Sender.{unsent, kindOf, asRow, noRow, live, pieceAt, Placed, Before, Valid, MadeGives}
 use Rattle.send_reliable.specs.Queue as q
 use Rattle.send_reliable.specs.Ack as a
 use Rattle.send_reliable.specs.QueueSteps.{RowFits, foundOf, RowAt}
 use Rattle.words.proofs.Entries.{first-miss, pairs-map, pairs-at}
-use Rattle.send_reliable.proofs.Valid.{live-long, live-more, in-live, live-at, row-placed, row-closes, cell-low, lane-low, live-fewer, without-small-valid, without-sliced-valid}
+use Rattle.send_reliable.proofs.Valid.{live-long, live-more, in-live, live-at, row-placed, row-used, cell-low, lane-low, live-fewer, without-small-valid, without-sliced-valid}
 use Rattle.send_reliable.proofs.Queueing.{spot-cell, spot-lane, cell-fits, lane-fits}
 use Rattle.send_reliable.proofs.Acking.{row-found, piece-last}
 
@@ -142,18 +142,18 @@ module _ (s : SendChannelReliable) where
 
   pub undone-ack-keeps : (x : ℕ) (r : Acked) → a.AckGives (a.ackSmall s x) r → (a.ackOf (r .answer) ≡ a.done → ⊥) → r .state ≡ s
   unfolding a.ackSmall Leaves
-  undone-ack-keeps x r g n = g .state ∙ row-leaves x (λ k w. a.smallKind s k w (w .kind)) (λ k w. small-leaves k w (w .kind)) (λ e. n (g .answer ∙ e))
+  undone-ack-keeps x r g n = g .state ∙ row-leaves x (λ k w. a.smallKind s k w (kindOf w)) (λ k w. small-leaves k w (kindOf w)) (λ e. n (g .answer ∙ e))
 
   pub undone-piece-keeps : (x i : ℕ) (r : Acked) → a.AckGives (a.ackPiece s x i) r → (a.ackOf (r .answer) ≡ a.done → ⊥) → r .state ≡ s
   unfolding a.ackPiece Leaves
-  undone-piece-keeps x i r g n = g .state ∙ row-leaves x (λ k w. a.pieceKind s k i w (w .kind)) (λ k w. piece-leaves k i w (w .kind)) (λ e. n (g .answer ∙ e))
+  undone-piece-keeps x i r g n = g .state ∙ row-leaves x (λ k w. a.pieceKind s k i w (kindOf w)) (λ k w. piece-leaves k i w (kindOf w)) (λ e. n (g .answer ∙ e))
 
 -- ---- a queued message waits in the last row, under the next id
 
 -- t is s with a message of n bytes more
 pub record Added (s : SendChannelReliable) (n : ℕ) (t : SendChannelReliable) : Type 0 where
   pub kind : Kind
-  pub rows : live t ≡ live s ++ (record { id = record { 0 = s .«next_reliable_message_id» }; len = n; kind = kind } ∷ [])
+  pub rows : live t ≡ live s ++ (asRow (record { 0 = s .«next_reliable_message_id» }) n kind ∷ [])
   pub next : t .«next_reliable_message_id» ≡ s .«next_reliable_message_id» + 1
   pub usage : t .«memory_usage_bytes» ≡ s .«memory_usage_bytes» + n
 
@@ -165,9 +165,9 @@ module _ (s : SendChannelReliable) (v : Valid s) (msg small lanes : List ℕ) wh
       → (id ≡ s .«next_reliable_message_id») × Added s (length msg) (q.stateAt s (length msg) spot)
   unfolding q.addSmall q.addSliced
   spot-added (q.cell i) h id e =
-      (cc, added s v (length msg) (cell-fits s v (length msg) i (spot-cell s v (length msg) (length small) (length lanes) i h .0)) _ _ _ _)
+      (cc, added s v (length msg) (cell-fits s v (length msg) i (spot-cell s v (length msg) (length small) (length lanes) i h .0)) (Small i unsent) _ _ _)
   spot-added (q.lane l) h id e =
-      (cc, added s v (length msg) (lane-fits s v (length msg) l (spot-lane s v (length msg) (length small) (length lanes) l h .0)) _ _ _ _)
+      (cc, added s v (length msg) (lane-fits s v (length msg) l (spot-lane s v (length msg) (length small) (length lanes) l h .0)) (Sliced l 0 0) _ _ _)
   spot-added (q.refused n) h id e = clash (cc)
 
   pub queued-last : (id : ℕ) (small' lanes' : List ℕ) (r : Queued) → q.QueueGives s msg small lanes small' lanes' r → q.queueOf (r .answer) ≡ q.taken id
@@ -238,12 +238,12 @@ module _ (s : SendChannelReliable) (v : Valid s) (k : ℕ) (r : Row) (at : RowAt
       let past : a.rowOf t x ≡ t .count = first-miss (a.hasId x) (live t) (rw fewer others) ∙ live-long t w in
       record {
         rows = fewer;
-        usage = omega (arith, row-closes s v k r at .used);
+        usage = omega (arith, row-used s v k r at);
         unknown = λ f. rw (lt-leb _ _ id-low, le-ltb (a.rowOf t x) (t .count) (omega arith));
       }
 
   -- the ack of a small message frees its cell
-  pub small-gone : (i : ℕ) (u : Sending) → r .kind ≡ Small i u → (p : Acked) → a.AckGives (a.ackSmall s (r .id .0)) p
+  pub small-gone : (i : ℕ) (u : Sending) → kindOf r ≡ Small i u → (p : Acked) → a.AckGives (a.ackSmall s (r .id .0)) p
       → (a.ackOf (p .answer) ≡ a.done) × (getD (p .state .cells) i false ≡ false) × Gone (p .state)
   unfolding a.ackSmall
   small-gone i u e p g =
@@ -256,7 +256,7 @@ module _ (s : SendChannelReliable) (v : Valid s) (k : ℕ) (r : Row) (at : RowAt
       )
 
   -- the ack of the last piece of a sliced one frees its lane
-  pub sliced-gone : (i l b next : ℕ) → r .kind ≡ Sliced l b next → i < piecesOf (r .len) → pieceAt s l i .acked ≡ false → b + 1 ≡ piecesOf (r .len)
+  pub sliced-gone : (i l b next : ℕ) → kindOf r ≡ Sliced l b next → i < piecesOf (r .len) → pieceAt s l i .acked ≡ false → b + 1 ≡ piecesOf (r .len)
       → (p : Acked) → a.AckGives (a.ackPiece s (r .id .0) i) p
       → (a.ackOf (p .answer) ≡ a.done) × (getD (p .state .lanes) l false ≡ false) × Gone (p .state)
   unfolding a.ackPiece

@@ -15,6 +15,7 @@ use Rattle.words.specs.Lists.{holds, total, splice, without, All, Pairs}
 use Rattle.words.proofs.Lists.{holds-le, holds-more, holds-less, total-snoc, total-without, all-map, all-snoc, all-at, all-others, pairs-snoc, pairs-without, held-still}
 use Rattle.words.proofs.Splice.{length-splice}
 use Rattle.words.proofs.Tables.{clash, total-set, part-here}
+use Rattle.words.specs.declared.MessageId.{MessageId}
 use Rattle.channel.specs.Settings.{Good}
 use Rattle.channel.specs.declared.Settings.{Settings}
 use Rattle.send_reliable.specs.declared.Sending.{Sending}
@@ -23,10 +24,10 @@ use Rattle.send_reliable.specs.declared.Kind.the-variants.{Small, Sliced
 use Rattle.send_reliable.specs.declared.Row.{Row}
 use Rattle.send_reliable.specs.declared.Piece.{Piece}
 use Rattle.send_reliable.specs.declared.SendChannelReliable.{SendChannelReliable}
-use Rattle.send_reliable.specs.Sender.{ROWS, unsent, noRow, noPiece, newOf, live, SentBy, pieceAt, ackedPieces, PlacedKind, Placed, Apart, Before, Valid}
+use Rattle.send_reliable.specs.Sender.{lastSent, kindOf, asRow, ROWS, unsent, noRow, noPiece, newOf, live, SentBy, pieceAt, ackedPieces, PlacedKind, Placed, Apart, Before, Valid}
 use Rattle.send_reliable.specs.Queue.{addRow, addSmall, addSliced}
 use Rattle.send_reliable.specs.Ack as ack
-use Rattle.send_reliable.specs.QueueSteps.{RowAt, Closes}
+use Rattle.send_reliable.specs.QueueSteps.{RowAt}
 use Rattle.words.proofs.Entries.{all-set, all-splice, all-replicate, total-replicate, all-anew, pairs-anew, run-apart, part-set, live-closed, length-closed}
 
 -- a message's length, and whether a piece is acknowledged
@@ -38,9 +39,23 @@ ackedOf p = pick (p .acked) 1 0
 
 -- a piece was sent by then, if at all
 abbrev pub SentPiece : ℕ → Piece → Type 0
-SentPiece latest p = SentBy latest (p .sending .«last_sent»)
+SentPiece latest p = SentBy latest (lastSent (p .sending))
 
 -- ---- the rows
+
+-- a row tells the id, the length and the kind that it was made of
+module _ (id : MessageId) (n : ℕ) where
+  pub row-id : (kind : Kind) → asRow id n kind .id ≡ id
+  row-id (Small i t) = refl
+  row-id (Sliced l a next) = refl
+
+  pub row-len : (kind : Kind) → asRow id n kind .len ≡ n
+  row-len (Small i t) = refl
+  row-len (Sliced l a next) = refl
+
+  pub row-kind : (kind : Kind) → kindOf (asRow id n kind) ≡ kind
+  row-kind (Small i t) = refl
+  row-kind (Sliced l a next) = refl
 
 module _ (s : SendChannelReliable) (v : Valid s) where
   pub count-most : s .count ≤ ROWS
@@ -92,7 +107,7 @@ pub record LaneFree (s : SendChannelReliable) (n l : ℕ) : Type 0 where
 
 -- the rows, with the new one at their end
 pub live-more : (s : SendChannelReliable) → Valid s → s .count < ROWS → (n : ℕ) (kind : Kind) (cells lanes : List Bool) (pieces : List Piece)
-    → live (addRow s n kind cells lanes pieces) ≡ live s ++ (record { id = record { 0 = s .«next_reliable_message_id» }; len = n; kind = kind } ∷ [])
+    → live (addRow s n kind cells lanes pieces) ≡ live s ++ (asRow (record { 0 = s .«next_reliable_message_id» }) n kind ∷ [])
 live-more s v h n kind cells lanes pieces = rw add-one (take-suc-set (s .rows) (s .count) _ (omega (arith, v .rows-long)))
 
 module _
@@ -110,12 +125,13 @@ module _
     (more : holds cells + holds lanes ≡ holds (s .cells) + holds (s .lanes) + 1)
     (sent : All (SentPiece (s .latest)) pieces)
     (here : PlacedKind (addRow s n kind cells lanes pieces) n kind)
-    (there : (r : Row) → PlacedKind s (r .len) (r .kind) → PlacedKind (addRow s n kind cells lanes pieces) (r .len) (r .kind) × Apart (r .kind) kind) where
+    (there : (r : Row) → PlacedKind s (r .len) (kindOf r) → PlacedKind (addRow s n kind cells lanes pieces) (r .len) (kindOf r) × Apart (kindOf r) kind) where
   add-valid : Valid (addRow s n kind cells lanes pieces)
   unfolding Placed Before
   add-valid =
       let t : SendChannelReliable = addRow s n kind cells lanes pieces in
-      let row : Row = record { id = record { 0 = s .«next_reliable_message_id» }; len = n; kind = kind } in
+      let id : MessageId = record { 0 = s .«next_reliable_message_id» } in
+      let row : Row = asRow id n kind in
       let room : s .count < ROWS = omega (arith, holds-le cells, holds-le lanes, v .counted) in
       let e = live-more s v room n kind cells lanes pieces in
       record {
@@ -126,16 +142,16 @@ module _
         lanes-long = lanes-long;
         pieces-long = pieces-long;
         counted = omega (arith, v .counted);
-        usage = ap (λ (u : ℕ). u + n) (v .usage) ∙ sym (ap (total lenOf) e ∙ total-snoc lenOf (live s) row);
+        usage = ap (λ (u : ℕ). u + n) (v .usage) ∙ sym (ap (total lenOf) e ∙ total-snoc lenOf (live s) row ∙ ap (λ (m : ℕ). total lenOf (live s) + m) (row-len id n kind));
         usage-most = memory;
         placed =
             subst (All (Placed t)) (sym e)
             (all-snoc (Placed t) (live s) row
             (all-map (Placed s) (Placed t) (λ r p. (omega arith, there r (p .1) .0)) (live s) (v .placed))
-            (omega arith, here));
+            (rw (row-id id n kind, row-len id n kind, row-kind id n kind) (omega arith, here)));
         rising =
             subst (Pairs Before) (sym e)
-            (pairs-snoc Before (live s) row (v .rising) (all-map (Placed s) (λ r. Before r row) (λ r p. (p .0, there r (p .1) .1)) (live s) (v .placed)));
+            (pairs-snoc Before (live s) row (v .rising) (all-map (Placed s) (λ r. Before r row) (λ r p. rw (row-id id n kind, row-kind id n kind) (p .0, there r (p .1) .1)) (live s) (v .placed)));
         pieces-sent = sent;
       }
 
@@ -158,7 +174,7 @@ add-small-valid s v n i c =
     (rw (holds-more (s .cells) i in-cells (c .free)) (omega arith))
     (v .pieces-sent)
     (c .low, getD-set-same (s .cells) i true false in-cells, c .short, tt)
-    (λ r p. keep-small s n i (r .len) (r .kind) (c .free) p)
+    (λ r p. keep-small s n i (r .len) (kindOf r) (c .free) p)
 
 -- what another lane has acknowledged is as it was
 keep-sliced : (s : SendChannelReliable) → Valid s → (n l m : ℕ) → n ≤ PIECES * SLICE_SIZE → (kind : Kind) → getD (s .lanes) l false ≡ false → PlacedKind s m kind
@@ -195,7 +211,7 @@ add-sliced-valid s v n l c =
     (rw (holds-more (s .lanes) l in-lanes (c .free)) (omega arith))
     (all-splice (SentPiece (s .latest)) (l * PIECES) r (s .pieces) (all-replicate (SentPiece (s .latest)) (piecesOf n) noPiece tt) (v .pieces-sent))
     (c .low, getD-set-same (s .lanes) l true false in-lanes, c .long, c .limit, none-acked s v n l low most, omega (arith, c .long), zero-le)
-    (λ x p. keep-sliced s v n l (x .len) most (x .kind) (c .free) p)
+    (λ x p. keep-sliced s v n l (x .len) most (kindOf x) (c .free) p)
 
 -- ---- one message fewer
 
@@ -204,6 +220,10 @@ apart-sym (Small i t) (Small j u) h = λ e. h (sym e)
 apart-sym (Small i t) (Sliced l a k) h = tt
 apart-sym (Sliced l a k) (Small i t) h = tt
 apart-sym (Sliced l a k) (Sliced m b n) h = λ e. h (sym e)
+
+placed-short : (s : SendChannelReliable) → Valid s → (n : ℕ) (kind : Kind) → PlacedKind s n kind → n ≤ PIECES * SLICE_SIZE
+placed-short s v n (Small i t) p = omega (arith, p .2)
+placed-short s v n (Sliced l a k) p = omega (arith, p .3, v .settings .pieces-most)
 
 module _ (s : SendChannelReliable) (v : Valid s) (k : ℕ) (r : Row) (at : RowAt s k r) where
   pub in-live : k < length (live s)
@@ -218,15 +238,13 @@ module _ (s : SendChannelReliable) (v : Valid s) (k : ℕ) (r : Row) (at : RowAt
   len-at : lenOf (getD (live s) k noRow) ≡ r .len
   len-at = ap lenOf live-at
 
-  -- its length is part of the usage
-  pub row-closes : Closes s k (r .len)
-  row-closes =
-      record {
-        low = at .low;
-        most = count-most s v;
-        long = v .rows-long;
-        used = omega (arith, total-without lenOf (live s) k noRow in-live, len-at, v .usage);
-      }
+  -- its length is part of the usage, and no more than a lane
+  pub row-used : r .len ≤ s .«memory_usage_bytes»
+  row-used = omega (arith, total-without lenOf (live s) k noRow in-live, len-at, v .usage)
+
+  pub row-short : r .len ≤ PIECES * SLICE_SIZE
+  unfolding Placed
+  row-short = placed-short s v (r .len) (kindOf r) (row-placed .1)
 
   module _ (cells lanes : List Bool) where
     pub live-fewer : live (ack.without s k (r .len) cells lanes) ≡ without k (live s)
@@ -236,7 +254,7 @@ module _ (s : SendChannelReliable) (v : Valid s) (k : ℕ) (r : Row) (at : RowAt
         (cells-long : length cells ≡ SLOTS)
         (lanes-long : length lanes ≡ LANES)
         (fewer : holds cells + holds lanes + 1 ≡ holds (s .cells) + holds (s .lanes))
-        (there : (x : Row) → PlacedKind s (x .len) (x .kind) → Apart (x .kind) (r .kind) → PlacedKind (ack.without s k (r .len) cells lanes) (x .len) (x .kind)) where
+        (there : (x : Row) → PlacedKind s (x .len) (kindOf x) → Apart (kindOf x) (kindOf r) → PlacedKind (ack.without s k (r .len) cells lanes) (x .len) (kindOf x)) where
       without-valid : Valid (ack.without s k (r .len) cells lanes)
       unfolding Placed Before
       without-valid =
@@ -257,14 +275,14 @@ module _ (s : SendChannelReliable) (v : Valid s) (k : ℕ) (r : Row) (at : RowAt
                 subst (All (Placed t)) (sym live-fewer)
                 (all-others Before (Placed s) (Placed t) (live s) k noRow in-live (v .rising)
                 (λ x q w. (q .0, there x (q .1) (rw live-at at (w .1))))
-                (λ x q w. (q .0, there x (q .1) (apart-sym (r .kind) (x .kind) (rw live-at at (w .1)))))
+                (λ x q w. (q .0, there x (q .1) (apart-sym (kindOf r) (kindOf x) (rw live-at at (w .1)))))
                 (v .placed));
             rising = subst (Pairs Before) (sym live-fewer) (pairs-without Before (live s) k (v .rising));
             pieces-sent = v .pieces-sent;
           }
 
   -- a small message
-  module _ (i : ℕ) (u : Sending) (e : r .kind ≡ Small i u) where
+  module _ (i : ℕ) (u : Sending) (e : kindOf r ≡ Small i u) where
     small-placed : PlacedKind s (r .len) (Small i u)
     unfolding Placed
     small-placed = rw e at (row-placed .1)
@@ -281,10 +299,10 @@ module _ (s : SendChannelReliable) (v : Valid s) (k : ℕ) (r : Row) (at : RowAt
     without-small-valid =
         let h = holds-less (s .cells) i (omega (arith, cell-low, v .cells-long)) (small-placed .1) in
         without-valid (set (s .cells) i false) (s .lanes) (simp length-set (v .cells-long)) (v .lanes-long) (omega (arith, h))
-        (λ x p a. others-small (x .len) (x .kind) p (rw e at a))
+        (λ x p a. others-small (x .len) (kindOf x) p (rw e at a))
 
   -- a sliced message
-  module _ (l a next : ℕ) (e : r .kind ≡ Sliced l a next) where
+  module _ (l a next : ℕ) (e : kindOf r ≡ Sliced l a next) where
     pub sliced-placed : PlacedKind s (r .len) (Sliced l a next)
     unfolding Placed
     sliced-placed = rw e at (row-placed .1)
@@ -304,7 +322,7 @@ module _ (s : SendChannelReliable) (v : Valid s) (k : ℕ) (r : Row) (at : RowAt
     without-sliced-valid =
         let h = holds-less (s .lanes) l (omega (arith, lane-low, v .lanes-long)) (sliced-placed .1) in
         without-valid (s .cells) (set (s .lanes) l false) (v .cells-long) (simp length-set (v .lanes-long)) (omega (arith, h))
-        (λ x p o. others-sliced (x .len) (x .kind) p (rw e at o))
+        (λ x p o. others-sliced (x .len) (kindOf x) p (rw e at o))
 
     -- ---- a piece acknowledged, and others still to be
 
@@ -317,7 +335,7 @@ module _ (s : SendChannelReliable) (v : Valid s) (k : ℕ) (r : Row) (at : RowAt
         after = ack.marked s k l a next i r
 
         row : Row
-        row = record { id = r .id; len = r .len; kind = Sliced l (a + 1) next }
+        row = asRow (r .id) (r .len) (Sliced l (a + 1) next)
 
         piece : Piece
         piece = record { acked = true; sending = pieceAt s l i .sending }
@@ -350,7 +368,7 @@ module _ (s : SendChannelReliable) (v : Valid s) (k : ℕ) (r : Row) (at : RowAt
         still-apart (Small j t) o = tt
         still-apart (Sliced j b q) o = o
 
-        apart-at : (x : Row) → Apart (x .kind) (getD (live s) k noRow .kind) → Apart (x .kind) (Sliced l a next)
+        apart-at : (x : Row) → Apart (kindOf x) (kindOf (getD (live s) k noRow)) → Apart (kindOf x) (Sliced l a next)
         apart-at x h = rw (live-at, e) at h
 
         pub marked-valid : Valid (ack.marked s k l a next i r)
@@ -371,15 +389,15 @@ module _ (s : SendChannelReliable) (v : Valid s) (k : ℕ) (r : Row) (at : RowAt
               placed =
                   subst (All (Placed after)) (sym live-marked)
                   (all-anew Before (Placed s) (Placed after) (live s) k noRow row in-live (v .rising)
-                  (λ x q w. (q .0, others-marked (x .len) (x .kind) (q .1) (apart-at x (w .1))))
-                  (λ x q w. (q .0, others-marked (x .len) (x .kind) (q .1) (apart-at x (apart-sym (getD (live s) k noRow .kind) (x .kind) (w .1)))))
+                  (λ x q w. (q .0, others-marked (x .len) (kindOf x) (q .1) (apart-at x (w .1))))
+                  (λ x q w. (q .0, others-marked (x .len) (kindOf x) (q .1) (apart-at x (apart-sym (kindOf (getD (live s) k noRow)) (kindOf x) (w .1)))))
                   (row-placed .0, (p .0, p .1, p .2, p .3, one-more, omega (arith, p .5, some), p .6))
                   (v .placed));
               rising =
                   subst (Pairs Before) (sym live-marked)
                   (pairs-anew Before (live s) k noRow row in-live
-                  (λ x w. (rw live-at at (w .0), still-apart (x .kind) (apart-at x (w .1))))
-                  (λ x w. (rw live-at at (w .0), apart-sym (x .kind) (Sliced l (a + 1) next) (still-apart (x .kind) (apart-at x (apart-sym (getD (live s) k noRow .kind) (x .kind) (w .1))))))
+                  (λ x w. (rw live-at at (w .0), still-apart (kindOf x) (apart-at x (w .1))))
+                  (λ x w. (rw live-at at (w .0), apart-sym (kindOf x) (Sliced l (a + 1) next) (still-apart (kindOf x) (apart-at x (apart-sym (kindOf (getD (live s) k noRow)) (kindOf x) (w .1))))))
                   (v .rising));
               pieces-sent =
                   all-set (SentPiece (s .latest)) (s .pieces) (l * PIECES + i) piece (v .pieces-sent)

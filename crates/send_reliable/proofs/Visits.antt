@@ -22,7 +22,7 @@ use Rattle.send_reliable.specs.declared.Kind.{Kind}
 use Rattle.send_reliable.specs.declared.Kind.the-variants.{Small, Sliced}
 use Rattle.send_reliable.specs.declared.Row.{Row}
 use Rattle.send_reliable.specs.declared.SendChannelReliable.{SendChannelReliable}
-use Rattle.send_reliable.specs.Sender.{noRow, live, PlacedKind, Placed, Apart, Before, Valid}
+use Rattle.send_reliable.specs.Sender.{kindOf, noRow, live, PlacedKind, Placed, Apart, Before, Valid}
 use Rattle.send_reliable.specs.Select.{Visit, upFrom, rowVisits, visitsFrom}
 use Rattle.send_reliable.specs.RoundSteps.{each, VISIT, visitAt, visitsIn, Ranged}
 use Rattle.words.proofs.Entries.{pairs-map}
@@ -86,10 +86,10 @@ sizeOf n (Small i t) = 1
 sizeOf n (Sliced l a next) = piecesOf n
 
 abbrev pub sizeRow : Row → ℕ
-sizeRow r = sizeOf (r .len) (r .kind)
+sizeRow r = sizeOf (r .len) (kindOf r)
 
 abbrev pub RangedRow : Row → Type 0
-RangedRow r = Ranged (r .len) (r .kind)
+RangedRow r = Ranged (r .len) (kindOf r)
 
 pub length-row : (k n : ℕ) (kind : Kind) → Ranged n kind → length (rowVisits k n kind) ≡ sizeOf n kind
 length-row k n (Small i t) g = length-upFrom k 0 1
@@ -101,20 +101,20 @@ pub length-visits : (j : ℕ) (rows : List Row) → All RangedRow rows → lengt
 unfolding visitsFrom total All
 length-visits j [] a = refl
 length-visits j (r ∷ rs) a =
-    length-append (rowVisits j (r .len) (r .kind)) (visitsFrom (j + 1) rs)
-    ∙ rw (length-row j (r .len) (r .kind) (a .0), length-visits (j + 1) rs (a .1))
+    length-append (rowVisits j (r .len) (kindOf r)) (visitsFrom (j + 1) rs)
+    ∙ rw (length-row j (r .len) (kindOf r) (a .0), length-visits (j + 1) rs (a .1))
 
 -- one row more
 pub visits-more : (j : ℕ) (rows : List Row) (k : ℕ) → k < length rows
-    → visitsFrom j (take (suc k) rows) ≡ visitsFrom j (take k rows) ++ rowVisits (j + k) (getD rows k noRow .len) (getD rows k noRow .kind)
+    → visitsFrom j (take (suc k) rows) ≡ visitsFrom j (take k rows) ++ rowVisits (j + k) (getD rows k noRow .len) (kindOf (getD rows k noRow))
 unfolding visitsFrom
 visits-more j [] k h = absurd (not-suc-le-zero h)
 visits-more j (r ∷ rs) zero h = rw (append-nil, add-zero)
 visits-more j (r ∷ rs) (suc k) h =
     let e : j + 1 + k ≡ j + suc k = omega arith in
-    ap (λ (l : List Visit). rowVisits j (r .len) (r .kind) ++ l)
-    (visits-more (j + 1) rs k (le-of-suc-le-suc h) ∙ ap (λ (i : ℕ). visitsFrom (j + 1) (take k rs) ++ rowVisits i (getD rs k noRow .len) (getD rs k noRow .kind)) e)
-    ∙ sym (append-assoc (rowVisits j (r .len) (r .kind)) (visitsFrom (j + 1) (take k rs)) (rowVisits (j + suc k) (getD rs k noRow .len) (getD rs k noRow .kind)))
+    ap (λ (l : List Visit). rowVisits j (r .len) (kindOf r) ++ l)
+    (visits-more (j + 1) rs k (le-of-suc-le-suc h) ∙ ap (λ (i : ℕ). visitsFrom (j + 1) (take k rs) ++ rowVisits i (getD rs k noRow .len) (kindOf (getD rs k noRow))) e)
+    ∙ sym (append-assoc (rowVisits j (r .len) (kindOf r)) (visitsFrom (j + 1) (take k rs)) (rowVisits (j + suc k) (getD rs k noRow .len) (kindOf (getD rs k noRow))))
 
 -- a sliced message's, in two ranges
 pub row-round : (t t' u : List ℕ) (n m r k next num len : ℕ) → num ≡ piecesOf len → visitsIn t' m ≡ visitsIn t n ++ upFrom k next (num - next) → visitsIn u r ≡ visitsIn t' m ++ upFrom k 0 (next - 0)
@@ -145,10 +145,10 @@ unfolding visitsFrom All
 visits-in f n j [] h e a = tt
 visits-in f n j (r ∷ rs) h e a =
     let s : sizeRow r ≡ f j = rw add-zero at (e 0 (omega arith)) in
-    all-append (Within n f) (rowVisits j (r .len) (r .kind)) (visitsFrom (j + 1) rs)
+    all-append (Within n f) (rowVisits j (r .len) (kindOf r)) (visitsFrom (j + 1) rs)
     (all-map (λ v. (v .row ≡ j) × (v .piece < sizeRow r)) (Within n f)
     (λ v w. let g = ap f (w .0) in (omega arith, omega arith))
-    (rowVisits j (r .len) (r .kind)) (row-in j (r .len) (r .kind) (a .0)))
+    (rowVisits j (r .len) (kindOf r)) (row-in j (r .len) (kindOf r) (a .0)))
     (visits-in f n (j + 1) rs (omega arith) (λ i l. let z : j + suc i ≡ j + 1 + i = omega arith in e (suc i) (omega arith) ∙ ap f z) (a .1))
 
 -- ---- a sender's visits
@@ -168,7 +168,7 @@ abbrev heldOf : Bool → SendChannelReliable → List Bool
 heldOf b s = pick b (s .cells) (s .lanes)
 
 abbrev ones : Bool → Row → ℕ
-ones b r = pick (isOf b (r .kind)) 1 0
+ones b r = pick (isOf b (kindOf r)) 1 0
 
 module _ (s : SendChannelReliable) where
   ranged : Good (s .settings) → (n : ℕ) (kind : Kind) → PlacedKind s n kind → Ranged n kind
@@ -196,7 +196,7 @@ module _ (s : SendChannelReliable) where
   sizes-most : (rows : List Row) → All RangedRow rows → total sizeRow rows ≤ total (ones true) rows + PIECES * total (ones false) rows
   unfolding total All
   sizes-most [] a = omega arith
-  sizes-most (r ∷ rs) a = let m = size-most (r .len) (r .kind) (a .0) in let q = sizes-most rs (a .1) in omega arith
+  sizes-most (r ∷ rs) a = let m = size-most (r .len) (kindOf r) (a .0) in let q = sizes-most rs (a .1) in omega arith
 
 module _ (s : SendChannelReliable) (v : Valid s) where
   pub rows-room : s .count ≤ length (s .rows)
@@ -207,15 +207,15 @@ module _ (s : SendChannelReliable) (v : Valid s) where
 
   pub all-ranged : All RangedRow (live s)
   unfolding Placed
-  all-ranged = all-map (Placed s) RangedRow (λ r p. ranged s (v .settings) (r .len) (r .kind) (p .1)) (live s) (v .placed)
+  all-ranged = all-map (Placed s) RangedRow (λ r p. ranged s (v .settings) (r .len) (kindOf r) (p .1)) (live s) (v .placed)
 
   -- each message holds a place of its own
   ones-few : (b : Bool) → total (ones b) (live s) ≤ holds (heldOf b s)
   unfolding Placed Before
   ones-few b =
-      places-few (λ (r : Row). isOf b (r .kind)) (λ r. placeOf (r .kind)) (live s) (heldOf b s)
-      (all-map (Placed s) (λ r. isOf b (r .kind) ≡ true → getD (heldOf b s) (placeOf (r .kind)) false ≡ true) (λ r p. place-held s b (r .len) (r .kind) (p .1)) (live s) (v .placed))
-      (pairs-map Before (λ x y. isOf b (x .kind) ≡ true → isOf b (y .kind) ≡ true → placeOf (x .kind) ≡ placeOf (y .kind) → ⊥) (λ x y p. place-own s b (x .kind) (y .kind) (p .1)) (live s) (v .rising))
+      places-few (λ (r : Row). isOf b (kindOf r)) (λ r. placeOf (kindOf r)) (live s) (heldOf b s)
+      (all-map (Placed s) (λ r. isOf b (kindOf r) ≡ true → getD (heldOf b s) (placeOf (kindOf r)) false ≡ true) (λ r p. place-held s b (r .len) (kindOf r) (p .1)) (live s) (v .placed))
+      (pairs-map Before (λ x y. isOf b (kindOf x) ≡ true → isOf b (kindOf y) ≡ true → placeOf (kindOf x) ≡ placeOf (kindOf y) → ⊥) (λ x y p. place-own s b (kindOf x) (kindOf y) (p .1)) (live s) (v .rising))
 
   sizes-few : total sizeRow (live s) ≤ ITEMS
   sizes-few =
@@ -240,17 +240,17 @@ module _ (s : SendChannelReliable) (v : Valid s) where
     row-ranged = rw row-live at (all-at RangedRow (live s) k noRow in-live all-ranged)
 
     -- after k rows there is room for the next
-    pub row-room : length (visitsFrom 0 (take k (live s))) + length (rowVisits k (getD (s .rows) k noRow .len) (getD (s .rows) k noRow .kind)) ≤ ITEMS
+    pub row-room : length (visitsFrom 0 (take k (live s))) + length (rowVisits k (getD (s .rows) k noRow .len) (kindOf (getD (s .rows) k noRow))) ≤ ITEMS
     row-room =
-        rw (length-visits 0 (take k (live s)) (all-take RangedRow k (live s) all-ranged), length-row k (getD (s .rows) k noRow .len) (getD (s .rows) k noRow .kind) row-ranged)
+        rw (length-visits 0 (take k (live s)) (all-take RangedRow k (live s) all-ranged), length-row k (getD (s .rows) k noRow .len) (kindOf (getD (s .rows) k noRow)) row-ranged)
         (omega (arith, rw row-live at (total-front sizeRow (live s) k noRow in-live), sizes-few))
 
     -- and its visits come next
     pub row-next : (t₀ : List ℕ) (m : ℕ) → visitsIn t₀ m ≡ visitsFrom 0 (take k (live s)) → (t : List ℕ) (n : ℕ)
-        → visitsIn t n ≡ visitsIn t₀ m ++ rowVisits k (getD (s .rows) k noRow .len) (getD (s .rows) k noRow .kind) → visitsIn t n ≡ visitsFrom 0 (take (k + 1) (live s))
+        → visitsIn t n ≡ visitsIn t₀ m ++ rowVisits k (getD (s .rows) k noRow .len) (kindOf (getD (s .rows) k noRow)) → visitsIn t n ≡ visitsFrom 0 (take (k + 1) (live s))
     row-next t₀ m w t n e =
         let z : 0 + k ≡ k = omega arith in
-        e ∙ ap (λ (vs : List Visit). vs ++ rowVisits k (getD (s .rows) k noRow .len) (getD (s .rows) k noRow .kind)) w
+        e ∙ ap (λ (vs : List Visit). vs ++ rowVisits k (getD (s .rows) k noRow .len) (kindOf (getD (s .rows) k noRow))) w
         ∙ sym (ap (λ (j : ℕ). visitsFrom 0 (take j (live s))) (add-one k) ∙ visits-more 0 (live s) k in-live ∙ rw (z, row-live))
 
   -- each visit is to a piece of a waiting message

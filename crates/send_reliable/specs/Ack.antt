@@ -18,7 +18,7 @@ use Rattle.send_reliable.specs.declared.SendChannelReliable.{SendChannel
 use Rattle.send_reliable.specs.declared.Ack.{Ack}
 use Rattle.send_reliable.specs.declared.Ack.the-variants as ack
 use Rattle.send_reliable.specs.declared.Acked.{Acked}
-use Rattle.send_reliable.specs.Sender.{noRow, live, pieceAt, Valid}
+use Rattle.send_reliable.specs.Sender.{kindOf, asRow, noRow, live, pieceAt, Valid}
 
 -- ---- the row of an id among the waiting, or `count`
 
@@ -82,7 +82,7 @@ smallKind s k r (Small i t) = after done (without s k (r .len) (set (s .cells) i
 smallKind s k r (Sliced l a next) = after (refused 16) s
 
 unfoldable pub ackSmall : SendChannelReliable → ℕ → After
-ackSmall s x = ackRow s x (λ k r. smallKind s k r (r .kind))
+ackSmall s x = ackRow s x (λ k r. smallKind s k r (kindOf r))
 
 -- ---- a piece: 16 where the message is small, 17 for an index not below its pieces; a piece that was acked already has no effect; the last one
 -- takes the message away
@@ -97,7 +97,7 @@ marked s k l a next i r =
       «memory_usage_bytes» = s .«memory_usage_bytes»;
       latest = s .latest;
       count = s .count;
-      rows = set (s .rows) k (record { id = r .id; len = r .len; kind = Sliced l (a + 1) next });
+      rows = set (s .rows) k (asRow (r .id) (r .len) (Sliced l (a + 1) next));
       cells = s .cells;
       lanes = s .lanes;
       pieces = set (s .pieces) (l * PIECES + i) (record { acked = true; sending = pieceAt s l i .sending });
@@ -115,7 +115,7 @@ pieceKind s k i r (Small j t) = after (refused 16) s
 pieceKind s k i r (Sliced l a next) = pick (leb (piecesOf (r .len)) i) (after (refused 17) s) (after done (withAck s k i r l a next))
 
 unfoldable pub ackPiece : SendChannelReliable → ℕ → ℕ → After
-ackPiece s x i = ackRow s x (λ k r. pieceKind s k i r (r .kind))
+ackPiece s x i = ackRow s x (λ k r. pieceKind s k i r (kindOf r))
 
 pub record AckGives (a : After) (r : Acked) : Type 0 where
   pub answer : ackOf (r .answer) ≡ a .answer

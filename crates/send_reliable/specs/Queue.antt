@@ -11,6 +11,7 @@ use Rattle.words.specs.Choice.{pick, refusal}
 use Rattle.words.specs.Lists.{splice, lowestFree}
 use Rattle.words.specs.Refusal.{numberOf}
 use Rattle.channel.specs.Settings.{storesHold, laneLen}
+use Rattle.channel.specs.declared.Settings.{Settings}
 use Rattle.send_reliable.specs.declared.Kind.{Kind}
 use Rattle.send_reliable.specs.declared.Kind.the-variants.{Small, Sliced}
 use Rattle.send_reliable.specs.declared.Piece.{Piece}
@@ -18,17 +19,20 @@ use Rattle.send_reliable.specs.declared.SendChannelReliable.{SendChannel
 use Rattle.send_reliable.specs.declared.Queue.{Queue}
 use Rattle.send_reliable.specs.declared.Queue.the-variants as queue
 use Rattle.send_reliable.specs.declared.Queued.{Queued}
-use Rattle.send_reliable.specs.Sender.{unsent, noPiece, Valid}
+use Rattle.send_reliable.specs.Sender.{unsent, asRow, noPiece, Valid}
 
--- a message of n bytes, with stores of these lengths lent
-unfoldable pub queueRefusal : SendChannelReliable → ℕ → ℕ → ℕ → ℕ
-queueRefusal s n small lane =
+-- by the settings, the next id and the memory used: a message of n bytes, with stores of these lengths lent
+abbrev pub queueNumber : Settings → ℕ → ℕ → ℕ → ℕ → ℕ → ℕ
+queueNumber settings next used n small lane =
     refusal (
-    (not (storesHold (s .settings) small lane), 10) ∷
-    (leb LIMIT (s .«next_reliable_message_id»), 13) ∷
-    (ltb (s .settings .pieces * SLICE_SIZE) n, 12) ∷
-    (ltb (s .settings .«max_memory_usage_bytes») (s .«memory_usage_bytes» + n), 7) ∷ []
+    (not (storesHold settings small lane), 10) ∷
+    (leb LIMIT next, 13) ∷
+    (ltb (settings .pieces * SLICE_SIZE) n, 12) ∷
+    (ltb (settings .«max_memory_usage_bytes») (used + n), 7) ∷ []
     )
+
+unfoldable pub queueRefusal : SendChannelReliable → ℕ → ℕ → ℕ → ℕ
+queueRefusal s n small lane = queueNumber (s .settings) (s .«next_reliable_message_id») (s .«memory_usage_bytes») n small lane
 
 -- the lowest free cell for a small message, the lowest free lane for a sliced one, or the refusal: 11 where none is free
 pub data Spot : Type 0 where
@@ -37,11 +41,14 @@ pub data Spot : Type 0 where
   refused : ℕ → Spot
 
 -- up to 1,200 bytes a message is small
-unfoldable pub freeSpot : SendChannelReliable → ℕ → Spot
-freeSpot s n =
+abbrev pub freeIn : Settings → ℕ → ℕ → ℕ → Spot
+freeIn settings i l n =
     pick (leb n SLICE_SIZE)
-    (pick (ltb (lowestFree (s .cells) (s .settings .slots)) (s .settings .slots)) (cell (lowestFree (s .cells) (s .settings .slots))) (refused 11))
-    (pick (ltb (lowestFree (s .lanes) (s .settings .lanes)) (s .settings .lanes)) (lane (lowestFree (s .lanes) (s .settings .lanes))) (refused 11))
+    (pick (ltb i (settings .slots)) (cell i) (refused 11))
+    (pick (ltb l (settings .lanes)) (lane l) (refused 11))
+
+unfoldable pub freeSpot : SendChannelReliable → ℕ → Spot
+freeSpot s n = freeIn (s .settings) (lowestFree (s .cells) (s .settings .slots)) (lowestFree (s .lanes) (s .settings .lanes)) n
 
 unfoldable pub spotOf : SendChannelReliable → ℕ → ℕ → ℕ → Spot
 spotOf s n small lanes = pick (eqb (queueRefusal s n small lanes) 0) (freeSpot s n) (refused (queueRefusal s n small lanes))
@@ -57,7 +64,7 @@ addRow s n kind cells lanes pieces =
       «memory_usage_bytes» = s .«memory_usage_bytes» + n;
       latest = s .latest;
       count = s .count + 1;
-      rows = set (s .rows) (s .count) (record { id = record { 0 = s .«next_reliable_message_id» }; len = n; kind = kind });
+      rows = set (s .rows) (s .count) (asRow (record { 0 = s .«next_reliable_message_id» }) n kind);
       cells = cells;
       lanes = lanes;
       pieces = pieces;

@@ -19,7 +19,7 @@ use Rattle.send_reliable.specs.declared.Kind.the-variants.{Small, Sliced
 use Rattle.send_reliable.specs.declared.Row.{Row}
 use Rattle.send_reliable.specs.declared.Piece.{Piece}
 use Rattle.send_reliable.specs.declared.SendChannelReliable.{SendChannelReliable}
-use Rattle.send_reliable.specs.Sender.{noRow, noPiece, live}
+use Rattle.send_reliable.specs.Sender.{lastSent, kindOf, asRow, noRow, noPiece, live}
 
 -- ---- what a round looks at, in its order: ids rise; a sliced message starts at the piece after its last sent one
 
@@ -44,7 +44,7 @@ rowVisits k n (Sliced l a next) = roundFrom k next (piecesOf n)
 -- of all rows, the first of them being the k-th
 unfoldable pub visitsFrom : ℕ → List Row → List Visit
 visitsFrom k [] = []
-visitsFrom k (r ∷ rs) = rowVisits k (r .len) (r .kind) ++ visitsFrom (k + 1) rs
+visitsFrom k (r ∷ rs) = rowVisits k (r .len) (kindOf r) ++ visitsFrom (k + 1) rs
 
 -- ---- what goes
 
@@ -54,7 +54,7 @@ due resend now Never = true
 due resend now (At t) = leb resend (now - t)
 
 abbrev pub sentAt : ℕ → Sending
-sentAt now = record { «last_sent» = At now }
+sentAt now = record { sent = 1; time = now }
 
 -- what is left of the allowance, what was chosen so far, and the tables of messages and pieces with their sendings
 pub record Chosen : Type 0 where
@@ -70,13 +70,13 @@ module _ (s : Settings) (resend now : ℕ) where
       record {
         left = c .left - r .len;
         items = c .items ++ (record { num = 0; id = r .id .0; index = 0; place = i * SLICE_SIZE; len = r .len } ∷ []);
-        rows = set (c .rows) k (record { id = r .id; len = r .len; kind = Small i (sentAt now) });
+        rows = set (c .rows) k (asRow (r .id) (r .len) (Small i (sentAt now)));
         pieces = c .pieces;
       }
 
   -- it goes if the allowance covers its length and it is due
   abbrev pub visitSmall : Chosen → ℕ → Row → ℕ → Sending → Chosen
-  visitSmall c k r i t = pick (ltb (c .left) (r .len)) c (pick (due resend now (t .«last_sent»)) (withSmall c k r i) c)
+  visitSmall c k r i t = pick (ltb (c .left) (r .len)) c (pick (due resend now (lastSent t)) (withSmall c k r i) c)
 
   -- chosen: piece i of the message in lane l, of row k, with a acknowledged pieces; it spends its own length
   abbrev pub withPiece : Chosen → ℕ → ℕ → Row → ℕ → ℕ → Piece → Chosen
@@ -85,21 +85,21 @@ module _ (s : Settings) (resend now : ℕ) where
         left = c .left - pieceLen (r .len) i;
         items = c .items
             ++ (record { num = piecesOf (r .len); id = r .id .0; index = i; place = l * laneLen s + i * SLICE_SIZE; len = pieceLen (r .len) i } ∷ []);
-        rows = set (c .rows) k (record { id = r .id; len = r .len; kind = Sliced l a (i + 1) });
+        rows = set (c .rows) k (asRow (r .id) (r .len) (Sliced l a (i + 1)));
         pieces = set (c .pieces) (l * PIECES + i) (record { acked = p .acked; sending = sentAt now });
       }
 
   -- before each piece the allowance must be at least 1,200; acked and not-due pieces are passed over
   abbrev pub visitPiece : Chosen → ℕ → ℕ → Row → ℕ → ℕ → Piece → Chosen
   visitPiece c k i r l a p =
-      pick (ltb (c .left) SLICE_SIZE) c (pick (p .acked) c (pick (due resend now (p .sending .«last_sent»)) (withPiece c k i r l a p) c))
+      pick (ltb (c .left) SLICE_SIZE) c (pick (p .acked) c (pick (due resend now (lastSent (p .sending))) (withPiece c k i r l a p) c))
 
   abbrev pub visitKind : Chosen → ℕ → ℕ → Row → Kind → Chosen
   visitKind c k i r (Small cell t) = visitSmall c k r cell t
   visitKind c k i r (Sliced l a next) = visitPiece c k i r l a (getD (c .pieces) (l * PIECES + i) noPiece)
 
   unfoldable pub visit : Chosen → Visit → Chosen
-  visit c v = visitKind c (v .row) (v .piece) (getD (c .rows) (v .row) noRow) (getD (c .rows) (v .row) noRow .kind)
+  visit c v = visitKind c (v .row) (v .piece) (getD (c .rows) (v .row) noRow) (kindOf (getD (c .rows) (v .row) noRow))
 
 -- nothing visited yet
 abbrev pub unvisited : SendChannelReliable → ℕ → Chosen

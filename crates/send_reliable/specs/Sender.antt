@@ -9,6 +9,7 @@ use Rattle.words.specs.Sizes.{SLICE_SIZE, SLOTS, LANES, PIECES, LIMIT}
 use Rattle.words.specs.Choice.{pick}
 use Rattle.words.specs.Pieces.{piecesOf}
 use Rattle.words.specs.Lists.{holds, total, All, Pairs}
+use Rattle.words.specs.declared.MessageId.{MessageId}
 use Rattle.channel.specs.Settings.{settingsRefusal, setupNumber, Good, leastSettings}
 use Rattle.channel.specs.declared.Settings.{Settings}
 use Rattle.send_reliable.specs.declared.Sent.{Sent}
@@ -24,13 +25,28 @@ use Rattle.send_reliable.specs.declared.Made.{Made}
 abbrev pub ROWS : ℕ
 ROWS = SLOTS + LANES
 
--- ---- a new one
+-- ---- what a table's plain fields say, and a row by its kind
+
+-- when something was last sent, if ever
+abbrev pub lastSent : Sending → Sent
+lastSent t = pick (eqb (t .sent) 0) Never (At (t .time))
 
 abbrev pub unsent : Sending
-unsent = record { «last_sent» = Never }
+unsent = record { sent = 0; time = 0 }
+
+-- where a waiting message lies
+abbrev pub kindOf : Row → Kind
+kindOf r = pick (r .sliced) (Sliced (r .place) (r .acked) (r .next)) (Small (r .place) (r .sending))
+
+-- the row of a message of n bytes; `kindOf` gives its kind back
+abbrev pub asRow : MessageId → ℕ → Kind → Row
+asRow id n (Small i t) = record { id = id; len = n; sliced = false; place = i; acked = 0; next = 0; sending = t }
+asRow id n (Sliced l a next) = record { id = id; len = n; sliced = true; place = l; acked = a; next = next; sending = unsent }
+
+-- ---- a new one
 
 abbrev pub noRow : Row
-noRow = record { id = record { 0 = 0 }; len = 0; kind = Small 0 unsent }
+noRow = asRow (record { 0 = 0 }) 0 (Small 0 unsent)
 
 abbrev pub noPiece : Piece
 noPiece = record { acked = false; sending = unsent }
@@ -71,7 +87,7 @@ ackedPieces s l n = total (λ (p : Piece). pick (p .acked) 1 0) (take (piecesOf 
 
 -- a waiting message holds its cell or lane, and is as long as its kind may be
 abbrev pub PlacedKind : SendChannelReliable → ℕ → Kind → Type 0
-PlacedKind s n (Small i t) = (i < s .settings .slots) × (getD (s .cells) i false ≡ true) × (n ≤ SLICE_SIZE) × SentBy (s .latest) (t .«last_sent»)
+PlacedKind s n (Small i t) = (i < s .settings .slots) × (getD (s .cells) i false ≡ true) × (n ≤ SLICE_SIZE) × SentBy (s .latest) (lastSent t)
 PlacedKind s n (Sliced l a k) =
     (l < s .settings .lanes)
     × (getD (s .lanes) l false ≡ true)
@@ -82,7 +98,7 @@ PlacedKind s n (Sliced l a k) =
     × (k ≤ piecesOf n)
 
 unfoldable pub Placed : SendChannelReliable → Row → Type 0
-Placed s r = (r .id .0 < s .«next_reliable_message_id») × PlacedKind s (r .len) (r .kind)
+Placed s r = (r .id .0 < s .«next_reliable_message_id») × PlacedKind s (r .len) (kindOf r)
 
 abbrev pub Apart : Kind → Kind → Type 0
 Apart (Small i t) (Small j u) = i ≡ j → ⊥
@@ -92,7 +108,7 @@ Apart (Sliced l a k) (Sliced m b n) = l ≡ m → ⊥
 
 -- ids rise, and no two share a cell or a lane
 unfoldable pub Before : Row → Row → Type 0
-Before a b = (a .id .0 < b .id .0) × Apart (a .kind) (b .kind)
+Before a b = (a .id .0 < b .id .0) × Apart (kindOf a) (kindOf b)
 
 -- the whole length of every unacknowledged message
 abbrev pub usageOf : SendChannelReliable → ℕ
@@ -110,7 +126,7 @@ pub record Valid (s : SendChannelReliable) : Type 0 where
   pub usage-most : s .«memory_usage_bytes» ≤ s .settings .«max_memory_usage_bytes»
   pub placed : All (Placed s) (live s)
   pub rising : Pairs Before (live s)
-  pub pieces-sent : All (λ (p : Piece). SentBy (s .latest) (p .sending .«last_sent»)) (s .pieces)
+  pub pieces-sent : All (λ (p : Piece). SentBy (s .latest) (lastSent (p .sending))) (s .pieces)
 
 pub record MadeGives (channel : ℕ) (s : Settings) (resend : ℕ) (r : Made) : Type 0 where
   pub number : setupNumber (r .answer) ≡ settingsRefusal s

@@ -4,11 +4,10 @@ ghost use mathlib.Core.Path.{_≡_};
 ghost use Prim.Native.Nat.{_*_, _≤_, _<_, _+_, _-_};
 ghost use lib.ListN.{length};
 ghost use Rattle.words.specs.Sizes.{SLICE_SIZE, LANES, PIECES};
-ghost use Rattle.words.specs.Pieces.{piecesOf};
-ghost use Rattle.send_reliable.specs.Sender.{noRow, noPiece, newOf, Valid, MadeGives, live, SentBy};
-ghost use Rattle.send_reliable.specs.Queue.{freeSpot, spotOf, addRow, addSliced, availableMemory, canSend, QueueGives};
-ghost use Rattle.send_reliable.specs.Ack.{without, ackSmall, withAck, ackPiece, AckGives};
-ghost use Rattle.send_reliable.specs.QueueSteps.{placeOf, RowFits, foundOf, RowAt, Closes};
+ghost use Rattle.send_reliable.specs.Sender.{ROWS, lastSent, kindOf, asRow, noRow, noPiece, newOf, Valid, MadeGives, live, SentBy};
+ghost use Rattle.send_reliable.specs.Queue.{freeIn, addSliced, availableMemory, canSend, QueueGives};
+ghost use Rattle.send_reliable.specs.Ack.{closed, ackSmall, ackPiece, AckGives};
+ghost use Rattle.send_reliable.specs.QueueSteps.{spotIn, placeOf, Narrow, RowFits, foundIn, smallStep, pieceStep, ShortFound};
 ghost use mathlib.Core.List.{_++_};
 ghost use Rattle.channel.specs.Settings.{Good};
 ghost use Rattle.pack.specs.Pack.{ITEM};
@@ -44,9 +43,12 @@ pub enum Sent {
     At(u64),
 }
 
-// When something was sent: shared by small messages and pieces.
+// When something was sent: shared by small messages and pieces. `sent` is 0 where it never was, a
+// whole word. Tables have plain numbers, and a row no unused byte, since the compiler copies rows of
+// another shape field by field.
 pub struct Sending {
-    last_sent: Sent,
+    sent: u64,
+    time: u64,
 }
 
 // Where a waiting message lies: a small one's cell and sending; a sliced one's lane, how many of its
@@ -56,11 +58,16 @@ pub enum Kind {
     Sliced(usize, usize, usize),
 }
 
-// A waiting message.
+// A waiting message. Its cell or lane is `place`; `acked` and `next` are a sliced one's, `sending` a
+// small one's.
 pub struct Row {
     id: MessageId,
-    len: usize,
-    kind: Kind,
+    len: u32,
+    sliced: bool,
+    place: u8,
+    acked: u8,
+    next: u8,
+    sending: Sending,
 }
 
 pub struct Piece {
@@ -130,20 +137,80 @@ enum Found {
     Nothing,
 }
 
+// What the ack of a small message comes to: an answer that changes nothing, or the row that goes and
+// its cell.
+enum AckSmall {
+    Left(Ack),
+    Gone(usize, Row, usize),
+}
+
+// What the ack of a piece comes to: an answer that changes nothing, or the message's row with its
+// lane, its acknowledged pieces and its cursor.
+enum AckPiece {
+    Left(Ack),
+    Marks(usize, Row, usize, usize, usize),
+}
+
+impl Sending {
+    fn last_sent(self) -> Sent
+        ensures { λ r. ⌜ r ≡ lastSent self ⌝ }
+    {
+        if self.sent == 0 {
+            return Sent::Never;
+        }
+        Sent::At(self.time)
+    }
+}
+
 impl Row {
+    fn new(id: MessageId, n: usize, kind: Kind) -> Row
+        requires { ⌜ Narrow n kind ⌝ }
+        ensures { λ r. ⌜ r ≡ asRow id n kind ⌝ }
+    {
+        match kind {
+            Kind::Small(cell, sending) => Row {
+                id,
+                len: n as u32,
+                sliced: false,
+                place: cell as u8,
+                acked: 0,
+                next: 0,
+                sending,
+            },
+            Kind::Sliced(lane, acked, next) => Row {
+                id,
+                len: n as u32,
+                sliced: true,
+                place: lane as u8,
+                acked: acked as u8,
+                next: next as u8,
+                sending: Sending { sent: 0, time: 0 },
+            },
+        }
+    }
+
     fn blank() -> Row
         ensures { λ r. ⌜ r ≡ noRow ⌝ }
     {
         Row {
             id: MessageId(0),
             len: 0,
-            kind: Kind::Small(
-                0,
-                Sending {
-                    last_sent: Sent::Never,
-                },
-            ),
+            sliced: false,
+            place: 0,
+            acked: 0,
+            next: 0,
+            sending: Sending { sent: 0, time: 0 },
         }
+    }
+
+    fn kind(self) -> Kind
+        ensures { λ r. ⌜ r ≡ kindOf self ⌝ }
+    {
+        if self.sliced {
+            return Kind::Sliced(self.place as usize, self.acked as usize, self.next as usize);
+        }
+        let sending = self.sending;
+        Kind::Small(self.place as usize, sending)
     }
 }
 
@@ -153,11 +220,129 @@ impl Piece {
     {
         Piece {
             acked: false,
-            sending: Sending {
-                last_sent: Sent::Never,
-            },
+            sending: Sending { sent: 0, time: 0 },
         }
     }
+}
+
+// Where a message of n bytes goes, with stores of these lengths, by the next id, the memory used and
+// the lowest free cell and lane. Functions that decide take what they look at: handing them the state
+// would copy it.
+fn find_place(
+    settings: Settings,
+    next: u64,
+    used: usize,
+    cell: usize,
+    lane: usize,
+    n: usize,
+    small: usize,
+    lanes: usize,
+) -> Place
+    requires { ⌜ Good settings ⌝ }
+    requires { ⌜ used ≤ settings .«max_memory_usage_bytes» ⌝ }
+    ensures { λ r. ⌜ placeOf r ≡ spotIn settings next used cell lane n small lanes ⌝ }
+{
+    if settings.stores_hold(small, lanes) {
+        if LIMIT <= next {
+            return Place::Nowhere(Refusal::BadNumber);
+        }
+        if settings.pieces * SLICE_SIZE < n {
+            return Place::Nowhere(Refusal::TooLong);
+        }
+        if settings.max_memory_usage_bytes < used + n {
+            return Place::Nowhere(Refusal::ReliableChannelMaxMemoryReached);
+        }
+        return free_place(settings, cell, lane, n);
+    }
+    Place::Nowhere(Refusal::BadStore)
+}
+
+// The cell or lane for a message of n bytes, if the lowest free one is among those that are used.
+fn free_place(settings: Settings, cell: usize, lane: usize, n: usize) -> Place
+    ensures { λ r. ⌜ placeOf r ≡ freeIn settings cell lane n ⌝ }
+{
+    if n <= SLICE_SIZE {
+        if cell < settings.slots {
+            return Place::Cell(cell);
+        }
+        return Place::Nowhere(Refusal::TableFull);
+    }
+    if lane < settings.lanes {
+        return Place::Lane(lane);
+    }
+    Place::Nowhere(Refusal::TableFull)
+}
+
+// The row of an id among the first n.
+fn find(rows: [Row; ROWS], n: usize, id: u64) -> Found
+    requires { ⌜ (n ≤ ROWS) × (length rows ≡ ROWS) ⌝ }
+    ensures { λ r. ⌜ r ≡ foundIn rows n id ⌝ }
+{
+    let mut i = 0;
+    while i < n {
+        let row = rows[i];
+        let waiting = row.id;
+        if waiting.0 == id {
+            return Found::At(i, row);
+        }
+        i += 1;
+    }
+    Found::Nothing
+}
+
+// The rows after k, up to n, one place lower, and a blank one after them.
+fn close(first: [Row; ROWS], k: usize, n: usize) -> [Row; ROWS]
+    requires { ⌜ (k < n) × (n ≤ ROWS) × (length first ≡ ROWS) ⌝ }
+    ensures { λ r. ⌜ r ≡ closed first k n ⌝ }
+{
+    let mut rows = first;
+    let last = n - 1;
+    let mut i = k;
+    while i < last {
+        let row = rows[i + 1];
+        rows[i] = row;
+        i += 1;
+    }
+    rows[last] = Row::blank();
+    rows
+}
+
+// What the ack of a small message comes to, by the row that was found.
+fn judge_message_ack(id: u64, found: Found) -> AckSmall
+    ensures { λ r. ⌜ r ≡ smallStep id found ⌝ }
+{
+    if LIMIT <= id {
+        return AckSmall::Left(Ack::Refused(Refusal::BadNumber));
+    }
+    let Found::At(k, row) = found else {
+        return AckSmall::Left(Ack::Unknown);
+    };
+    let kind = row.kind();
+    let Kind::Small(cell, _) = kind else {
+        return AckSmall::Left(Ack::Refused(Refusal::WrongKind));
+    };
+    AckSmall::Gone(k, row, cell)
+}
+
+// What the ack of a piece comes to, by the row that was found.
+fn judge_slice_ack(id: u64, index: u64, found: Found) -> AckPiece
+    requires { ⌜ ShortFound found ⌝ }
+    ensures { λ r. ⌜ r ≡ pieceStep id index found ⌝ }
+{
+    if LIMIT <= id {
+        return AckPiece::Left(Ack::Refused(Refusal::BadNumber));
+    }
+    let Found::At(k, row) = found else {
+        return AckPiece::Left(Ack::Unknown);
+    };
+    let kind = row.kind();
+    let Kind::Sliced(lane, acked, next) = kind else {
+        return AckPiece::Left(Ack::Refused(Refusal::WrongKind));
+    };
+    if pack::num_slices(row.len as usize) as u64 <= index {
+        return AckPiece::Left(Ack::Refused(Refusal::BadIndex));
+    }
+    AckPiece::Marks(k, row, lane, acked, next)
 }
 
 impl SendChannelReliable {
@@ -197,33 +382,36 @@ impl SendChannelReliable {
     {
         let n = message.len();
         let id = self.next_reliable_message_id;
-        let place = self.place(n, small.len(), lanes.len());
+        let used = self.memory_usage_bytes;
+        let settings = self.settings;
+        let cell = words::lowest_free(&self.cells, settings.slots);
+        let lane = words::lowest_free(&self.lanes, settings.lanes);
+        let place = find_place(settings, id, used, cell, lane, n, small.len(), lanes.len());
+        // one way out for all answers: each further one would cost a copy of the state
+        let mut answer = Queue::Taken(MessageId(id));
         match place {
-            Place::Nowhere(e) => Queued {
-                answer: Queue::Refused(e),
-                state: self,
-            },
+            Place::Nowhere(e) => {
+                answer = Queue::Refused(e);
+            }
             Place::Cell(i) => {
                 words::write_bytes(small, i * SLICE_SIZE, message);
                 self.cells[i] = true;
-                let unsent = Sending {
-                    last_sent: Sent::Never,
-                };
-                let state = self.with_row(n, Kind::Small(i, unsent));
-                Queued {
-                    answer: Queue::Taken(MessageId(id)),
-                    state,
-                }
+                let at = self.count;
+                let unsent = Sending { sent: 0, time: 0 };
+                self.rows[at] = Row::new(MessageId(id), n, Kind::Small(i, unsent));
+                self.count = at + 1;
+                self.memory_usage_bytes = used + n;
+                self.next_reliable_message_id = id + 1;
             }
             Place::Lane(l) => {
-                let size = self.settings.pieces * SLICE_SIZE;
+                let size = settings.pieces * SLICE_SIZE;
                 words::write_bytes(lanes, l * size, message);
-                let state = self.with_sliced(l, n);
-                Queued {
-                    answer: Queue::Taken(MessageId(id)),
-                    state,
-                }
+                self = self.with_sliced(l, n);
             }
+        }
+        Queued {
+            answer,
+            state: self,
         }
     }
 
@@ -233,71 +421,73 @@ impl SendChannelReliable {
         ensures { λ r. ⌜ AckGives (ackSmall self («message_id» .0)) r ⌝ }
     {
         let id = message_id.0;
-        if LIMIT <= id {
-            return Acked {
-                answer: Ack::Refused(Refusal::BadNumber),
-                state: self,
-            };
+        let count = self.count;
+        let found = find(self.rows, count, id);
+        let step = judge_message_ack(id, found);
+        // one way out, as in `send_message`
+        let mut answer = Ack::Done;
+        match step {
+            AckSmall::Left(a) => {
+                answer = a;
+            }
+            AckSmall::Gone(k, row, cell) => {
+                self.cells[cell] = false;
+                self.rows = close(self.rows, k, count);
+                self.count = count - 1;
+                self.memory_usage_bytes -= row.len as usize;
+            }
         }
-        let found = self.find(id);
-        let Found::At(k, row) = found else {
-            return Acked {
-                answer: Ack::Unknown,
-                state: self,
-            };
-        };
-        let kind = row.kind;
-        let Kind::Small(i, _) = kind else {
-            return Acked {
-                answer: Ack::Refused(Refusal::WrongKind),
-                state: self,
-            };
-        };
-        self.cells[i] = false;
-        let state = self.without_row(k, row.len);
         Acked {
-            answer: Ack::Done,
-            state,
+            answer,
+            state: self,
         }
     }
 
     // Takes the ack of a piece; the message is gone when all its pieces are acknowledged.
-    pub fn process_slice_message_ack(self, message_id: MessageId, slice_index: SliceIndex) -> Acked
+    pub fn process_slice_message_ack(
+        mut self,
+        message_id: MessageId,
+        slice_index: SliceIndex,
+    ) -> Acked
         requires { ⌜ Valid self ⌝ }
         ensures { λ r. ⌜ AckGives (ackPiece self («message_id» .0) («slice_index» .0)) r ⌝ }
     {
         let id = message_id.0;
-        if LIMIT <= id {
-            return Acked {
-                answer: Ack::Refused(Refusal::BadNumber),
-                state: self,
-            };
-        }
-        let found = self.find(id);
-        let Found::At(k, row) = found else {
-            return Acked {
-                answer: Ack::Unknown,
-                state: self,
-            };
-        };
-        let kind = row.kind;
-        let Kind::Sliced(lane, acked, next) = kind else {
-            return Acked {
-                answer: Ack::Refused(Refusal::WrongKind),
-                state: self,
-            };
-        };
         let index = slice_index.0;
-        if pack::num_slices(row.len) as u64 <= index {
-            return Acked {
-                answer: Ack::Refused(Refusal::BadIndex),
-                state: self,
-            };
+        let count = self.count;
+        let found = find(self.rows, count, id);
+        let step = judge_slice_ack(id, index, found);
+        // one way out, as in `send_message`
+        let mut answer = Ack::Done;
+        match step {
+            AckPiece::Left(a) => {
+                answer = a;
+            }
+            AckPiece::Marks(k, row, lane, acked, next) => {
+                let at = lane * PIECES + index as usize;
+                let piece = self.pieces[at];
+                if !piece.acked {
+                    let len = row.len as usize;
+                    if acked + 1 == pack::num_slices(len) {
+                        self.lanes[lane] = false;
+                        self.rows = close(self.rows, k, count);
+                        self.count = count - 1;
+                        self.memory_usage_bytes -= len;
+                    } else {
+                        let sending = piece.sending;
+                        self.pieces[at] = Piece {
+                            acked: true,
+                            sending,
+                        };
+                        let id = row.id;
+                        self.rows[k] = Row::new(id, len, Kind::Sliced(lane, acked + 1, next));
+                    }
+                }
+            }
         }
-        let state = self.with_ack(k, row, lane, acked, next, index as usize);
         Acked {
-            answer: Ack::Done,
-            state,
+            answer,
+            state: self,
         }
     }
 
@@ -347,66 +537,6 @@ impl SendChannelReliable {
         }
     }
 
-    // Where a message of n bytes goes, with stores of these lengths.
-    fn place(self, n: usize, small: usize, lane: usize) -> Place
-        requires { ⌜ Valid self ⌝ }
-        ensures { λ r. ⌜ placeOf r ≡ spotOf self n small lane ⌝ }
-    {
-        let settings = self.settings;
-        if settings.stores_hold(small, lane) {
-            if LIMIT <= self.next_reliable_message_id {
-                return Place::Nowhere(Refusal::BadNumber);
-            }
-            if settings.pieces * SLICE_SIZE < n {
-                return Place::Nowhere(Refusal::TooLong);
-            }
-            if settings.max_memory_usage_bytes < self.memory_usage_bytes + n {
-                return Place::Nowhere(Refusal::ReliableChannelMaxMemoryReached);
-            }
-            return self.free_place(n);
-        }
-        Place::Nowhere(Refusal::BadStore)
-    }
-
-    // The lowest free cell or lane for a message of n bytes.
-    fn free_place(self, n: usize) -> Place
-        requires { ⌜ Valid self ⌝ }
-        ensures { λ r. ⌜ placeOf r ≡ freeSpot self n ⌝ }
-    {
-        if n <= SLICE_SIZE {
-            let slots = self.settings.slots;
-            let i = words::lowest_free(&self.cells, slots);
-            if i < slots {
-                return Place::Cell(i);
-            }
-            return Place::Nowhere(Refusal::TableFull);
-        }
-        let lanes = self.settings.lanes;
-        let l = words::lowest_free(&self.lanes, lanes);
-        if l < lanes {
-            return Place::Lane(l);
-        }
-        Place::Nowhere(Refusal::TableFull)
-    }
-
-    // With a message of n bytes more, whose cell or lane is taken already.
-    fn with_row(mut self, n: usize, kind: Kind) -> SendChannelReliable
-        requires { ⌜ RowFits self n ⌝ }
-        ensures { λ r. ⌜ r ≡ addRow self n kind (self .cells) (self .lanes) (self .pieces) ⌝ }
-    {
-        let at = self.count;
-        let id = self.next_reliable_message_id;
-        self.rows[at] = Row {
-            id: MessageId(id),
-            len: n,
-            kind,
-        };
-        self.count = at + 1;
-        self.memory_usage_bytes += n;
-        self.next_reliable_message_id = id + 1;
-        self
-    }
-
     // With a message of n bytes more in lane l, none of its pieces sent or acknowledged.
     fn with_sliced(mut self, l: usize, n: usize) -> SendChannelReliable
         requires { ⌜ RowFits self n × (l < LANES) × (n ≤ PIECES * SLICE_SIZE) × (length (self .pieces) ≡ LANES * PIECES) ⌝ }
@@ -420,80 +550,12 @@ impl SendChannelReliable {
             self.pieces[base + i] = Piece::blank();
             i += 1;
         }
-        self.with_row(n, Kind::Sliced(l, 0, 0))
-    }
-
-    // The row of an id.
-    fn find(self, id: u64) -> Found
-        requires { ⌜ Valid self ⌝ }
-        ensures { λ r. ⌜ r ≡ foundOf self id ⌝ }
-    {
-        let n = self.count;
-        let mut i = 0;
-        while i < n {
-            let row = self.rows[i];
-            let waiting = row.id;
-            if waiting.0 == id {
-                return Found::At(i, row);
-            }
-            i += 1;
-        }
-        Found::Nothing
-    }
-
-    // Without the message of n bytes in row k, whose cell or lane is free already.
-    fn without_row(mut self, k: usize, n: usize) -> SendChannelReliable
-        requires { ⌜ Closes self k n ⌝ }
-        ensures { λ r. ⌜ r ≡ without self k n (self .cells) (self .lanes) ⌝ }
-    {
-        self.memory_usage_bytes -= n;
-        let last = self.count - 1;
-        self.count = last;
-        let mut i = k;
-        while i < last {
-            let row = self.rows[i + 1];
-            self.rows[i] = row;
-            i += 1;
-        }
-        self.rows[last] = Row::blank();
-        self
-    }
-
-    // With piece `index` of a message acknowledged: the message in row k, in that lane, with so many
-    // acknowledged pieces and that piece to come next.
-    fn with_ack(
-        mut self,
-        k: usize,
-        row: Row,
-        lane: usize,
-        acked: usize,
-        next: usize,
-        index: usize,
-    ) -> SendChannelReliable
-        requires { ⌜ Valid self × RowAt self k row × (row .kind ≡ Kind.Sliced lane acked next) × (index < piecesOf (row .len)) ⌝ }
-        ensures { λ r. ⌜ r ≡ withAck self k index row lane acked next ⌝ }
-    {
-        let at = lane * PIECES + index;
-        let piece = self.pieces[at];
-        if piece.acked {
-            return self;
-        }
-        let len = row.len;
-        if acked + 1 == pack::num_slices(len) {
-            self.lanes[lane] = false;
-            return self.without_row(k, len);
-        }
-        let sending = piece.sending;
-        self.pieces[at] = Piece {
-            acked: true,
-            sending,
-        };
-        let id = row.id;
-        self.rows[k] = Row {
-            id,
-            len,
-            kind: Kind::Sliced(lane, acked + 1, next),
-        };
+        let at = self.count;
+        let id = self.next_reliable_message_id;
+        self.rows[at] = Row::new(MessageId(id), n, Kind::Sliced(l, 0, 0));
+        self.count = at + 1;
+        self.memory_usage_bytes += n;
+        self.next_reliable_message_id = id + 1;
         self
     }
 }
@@ -555,16 +617,16 @@ fn write_range(visits: &mut [u64], n: usize, k: usize, from: usize, to: usize) -
 // Writes the visits to row k: a small message is one piece; a sliced one starts at the piece after its
 // last sent one and comes round to it.
 fn write_row(visits: &mut [u64], n: usize, k: usize, row: Row) -> usize
-    requires { ⌜ Ranged (row .len) (row .kind) ⌝ }
-    requires { ⌜ VISIT * (n + length (rowVisits k (row .len) (row .kind))) ≤ length (now visits) ⌝ }
-    ensures { λ r. ⌜ (r ≡ n + length (rowVisits k (row .len) (row .kind)))
-        × (visitsIn (now (visits .exit)) r ≡ visitsIn (now (visits .entry)) n ++ rowVisits k (row .len) (row .kind)) ⌝ }
+    requires { ⌜ Ranged (row .len) (kindOf row) ⌝ }
+    requires { ⌜ VISIT * (n + length (rowVisits k (row .len) (kindOf row))) ≤ length (now visits) ⌝ }
+    ensures { λ r. ⌜ (r ≡ n + length (rowVisits k (row .len) (kindOf row)))
+        × (visitsIn (now (visits .exit)) r ≡ visitsIn (now (visits .entry)) n ++ rowVisits k (row .len) (kindOf row)) ⌝ }
 {
-    let kind = row.kind;
+    let kind = row.kind();
     match kind {
         Kind::Small(_, _) => write_range(visits, n, k, 0, 1),
         Kind::Sliced(_, _, next) => {
-            let m = write_range(visits, n, k, next, pack::num_slices(row.len));
+            let m = write_range(visits, n, k, next, pack::num_slices(row.len as usize));
             write_range(visits, m, k, 0, next)
         }
     }
@@ -572,10 +634,10 @@ fn write_row(visits: &mut [u64], n: usize, k: usize, row: Row) -> usize
 
 // Whether what was last sent then is due again.
 fn is_due(sending: Sending, current_time: u64, resend_time: u64) -> bool
-    requires { ⌜ SentBy «current_time» (sending .«last_sent») ⌝ }
-    ensures { λ r. ⌜ r ≡ due «resend_time» «current_time» (sending .«last_sent») ⌝ }
+    requires { ⌜ SentBy «current_time» (lastSent sending) ⌝ }
+    ensures { λ r. ⌜ r ≡ due «resend_time» «current_time» (lastSent sending) ⌝ }
 {
-    let last_sent = sending.last_sent;
+    let last_sent = sending.last_sent();
     match last_sent {
         Sent::Never => true,
         Sent::At(t) => resend_time <= current_time - t,
@@ -584,8 +646,8 @@ fn is_due(sending: Sending, current_time: u64, resend_time: u64) -> bool
 
 // Whether what is left of the allowance covers what something needs, and it is due.
 fn goes(need: usize, left: u64, sending: Sending, current_time: u64, resend_time: u64) -> bool
-    requires { ⌜ SentBy «current_time» (sending .«last_sent») ⌝ }
-    ensures { λ r. ⌜ r ≡ goes «resend_time» «current_time» left need (sending .«last_sent») ⌝ }
+    requires { ⌜ SentBy «current_time» (lastSent sending) ⌝ }
+    ensures { λ r. ⌜ r ≡ goes «resend_time» «current_time» left need (lastSent sending) ⌝ }
 {
     if left < need as u64 {
         return false;
@@ -631,7 +693,8 @@ impl SendChannelReliable {
         let resend_time = self.resend_time;
         let lane_len = self.settings.pieces * SLICE_SIZE;
         let sending = Sending {
-            last_sent: Sent::At(current_time),
+            sent: 1,
+            time: current_time,
         };
         let mut left = allowance;
         let mut m = 0;
@@ -642,13 +705,12 @@ impl SendChannelReliable {
             v += 1;
             let row = self.rows[k];
             let id = row.id;
-            let len = row.len;
-            let kind = row.kind;
+            let len = row.len as usize;
+            let kind = row.kind();
             match kind {
                 Kind::Small(cell, last) => {
                     if goes(len, left, last, current_time, resend_time) {
-                        let kind = Kind::Small(cell, sending);
-                        self.rows[k] = Row { id, len, kind };
+                        self.rows[k] = Row::new(id, len, Kind::Small(cell, sending));
                         pack::put_item(items, m, 0, id, SliceIndex(0), cell * SLICE_SIZE, len);
                         left -= len as u64;
                         m += 1;
@@ -661,8 +723,7 @@ impl SendChannelReliable {
                     let last = piece.sending;
                     let size = pack::slice_len(len, i);
                     if !acked && goes(SLICE_SIZE, left, last, current_time, resend_time) {
-                        let kind = Kind::Sliced(lane, num_acked, i + 1);
-                        self.rows[k] = Row { id, len, kind };
+                        self.rows[k] = Row::new(id, len, Kind::Sliced(lane, num_acked, i + 1));
                         self.pieces[j] = Piece { acked, sending };
                         let place = lane * lane_len + i * SLICE_SIZE;
                         let index = SliceIndex(i as u64);

@@ -10,7 +10,8 @@ use Rattle.channel.specs.Settings.{Good}
 use Rattle.channel.proofs.Good.{lane-end}
 use Rattle.pack.specs.Pack.{ITEM}
 use Rattle.pack.proofs.Pieces.{pieces-needed}
-use Rattle.send_reliable.specs.Sender.{noRow}
+use Rattle.send_reliable.specs.declared.Kind.the-variants.{Small, Sliced}
+use Rattle.send_reliable.specs.Sender.{kindOf, noRow}
 use Rattle.send_reliable.specs.RoundSteps.{VISIT}
 use Rattle.send_reliable.proofs.Select.{SmallHere, PieceHere}
 use Rattle.send_reliable.proofs.Rounds.{chosenBy, ChosenTo, none-chosen, Turn, turn, all-chosen, at-small, small-covered, small-passed, small-chosen, at-piece, piece-covered, piece-acked, piece-stays, piece-chosen}
@@ -26,16 +27,16 @@ abbrev μ-loop : tie.MeasureT-loop
 
 -- the turn in which a small message or a piece is met, and where it was met before it was put into the table
 abbrev small-turn : tie.After-known-told Inv-loop μ-loop → tie.In-loop Inv-loop μ-loop
-small-turn c = c .before .before .before .before .before .before .before
+small-turn c = c .before .before .before .before .before .before .before .before .before
 
 abbrev piece-turn : tie.After-known-told2 Inv-loop μ-loop → tie.In-loop Inv-loop μ-loop
-piece-turn c = c .before .before .before .before .before .before .before
+piece-turn c = c .before .before .before .before .before .before .before .before .before
 
 abbrev small-put : tie.After-slice-known2 Inv-loop μ-loop → tie.After-known-told Inv-loop μ-loop
-small-put c = c .before .before .before .before .before .before
+small-put c = c .before .before .before .before .before .before .before
 
 abbrev piece-put : tie.After-slice-known3 Inv-loop μ-loop → tie.After-known-told2 Inv-loop μ-loop
-piece-put c = c .before .before .before .before .before .before .before .before .before .before .before
+piece-put c = c .before .before .before .before .before .before .before .before .before .before .before .before
 
 -- what is known at a visit, of the small message there, and of the piece there
 known : (c : tie.In-loop Inv-loop μ-loop) → (let a = c .before .before .before .before .args in let l = c .before .loop in
@@ -46,14 +47,22 @@ known c =
     let l = c .before .loop in
     turn (a .t1) (s .pre .0) (a .current-time) (a .allowance) (s .pre .1 .0) (a .visits .now) (a .n) (s .pre .1 .1 .1 .0) (l .v) (l .m) (l .left) (l .self) (l .items) (l .inv .3) (c .loop-test .taken)
 
+small-kind : (c : tie.After-known-told Inv-loop μ-loop) → (let i = small-turn c in let a = i .before .before .before .before .args in let l = i .before .loop in
+    kindOf (getD (l .self .rows) (getD (a .visits .now) (VISIT * l .v) 0) noRow) ≡ Small (c .before .kind2 .given .0 .0) (c .before .kind2 .given .0 .1 .0))
+small-kind c = sym (c .before .before .before .kind .ensures) ∙ c .before .kind2 .given .1
+
 small : (c : tie.After-known-told Inv-loop μ-loop) → (let i = small-turn c in let a = i .before .before .before .before .args in let l = i .before .loop in
-    SmallHere (a .t1) (a .current-time) (getD (l .self .rows) (getD (a .visits .now) (VISIT * l .v) 0) noRow) (c .before .kind .given .0 .0) (c .before .kind .given .0 .1 .0))
-small c = at-small (known (small-turn c)) (c .before .kind .given .0 .0) (c .before .kind .given .0 .1 .0) (c .before .kind .given .1)
+    SmallHere (a .t1) (a .current-time) (getD (l .self .rows) (getD (a .visits .now) (VISIT * l .v) 0) noRow) (c .before .kind2 .given .0 .0) (c .before .kind2 .given .0 .1 .0))
+small c = at-small (known (small-turn c)) (c .before .kind2 .given .0 .0) (c .before .kind2 .given .0 .1 .0) (small-kind c)
+
+piece-kind : (c : tie.After-known-told2 Inv-loop μ-loop) → (let i = piece-turn c in let a = i .before .before .before .before .args in let l = i .before .loop in
+    kindOf (getD (l .self .rows) (getD (a .visits .now) (VISIT * l .v) 0) noRow) ≡ Sliced (c .before .kind3 .given .0 .0) (c .before .kind3 .given .0 .1 .0) (c .before .kind3 .given .0 .1 .1 .0))
+piece-kind c = sym (c .before .before .before .kind .ensures) ∙ c .before .kind3 .given .1
 
 piece : (c : tie.After-known-told2 Inv-loop μ-loop) → (let i = piece-turn c in let a = i .before .before .before .before .args in let l = i .before .loop in
     PieceHere (a .t1) (a .current-time) (chosenBy (l .left) (l .items) (l .m) (l .self)) (getD (l .self .rows) (getD (a .visits .now) (VISIT * l .v) 0) noRow)
-    (c .before .kind2 .given .0 .0) (c .before .kind2 .given .0 .1 .0) (getD (a .visits .now) (VISIT * l .v + 1) 0))
-piece c = at-piece (known (piece-turn c)) (c .before .kind2 .given .0 .0) (c .before .kind2 .given .0 .1 .0) (c .before .kind2 .given .0 .1 .1 .0) (c .before .kind2 .given .1)
+    (c .before .kind3 .given .0 .0) (c .before .kind3 .given .0 .1 .0) (getD (a .visits .now) (VISIT * l .v + 1) 0))
+piece c = at-piece (known (piece-turn c)) (c .before .kind3 .given .0 .0) (c .before .kind3 .given .0 .1 .0) (c .before .kind3 .given .0 .1 .1 .0) (piece-kind c)
 
 -- its settings
 good : (c : tie.In-loop Inv-loop μ-loop) → Good (c .before .before .before .before .args .t1 .settings)
@@ -99,26 +108,35 @@ mul-row c = let k = known (c .before .before) .row-low in omega arith
 element-copy-out-row : tie.Need-element-copy-out-row Inv-loop μ-loop
 element-copy-out-row c = let k = known (c .before .before) .row-low in omega arith
 
+cast-len : tie.Need-cast-len Inv-loop μ-loop
+cast-len c = search needs
+
+kind-requires : tie.Need-kind-requires Inv-loop μ-loop
+kind-requires c κs = search needs
+
 enum-known-kind : tie.Need-enum-known-kind Inv-loop μ-loop
 enum-known-kind c = search needs
 
 goes-requires : tie.Need-goes-requires Inv-loop μ-loop
 goes-requires c κs = small c .sent
 
-mul-t47 : tie.Need-mul-t47 Inv-loop μ-loop
-mul-t47 c = let k = known (small-turn (c .before .before)) .row-low in omega arith
+new-requires : tie.Need-new-requires Inv-loop μ-loop
+new-requires c κs = let h = small (c .before .before) in let g = good (small-turn (c .before .before)) in (h .short, omega (arith, h .low, g .slots-most))
+
+mul-t45 : tie.Need-mul-t45 Inv-loop μ-loop
+mul-t45 c = let k = known (small-turn (c .before .before .before)) .row-low in omega arith
 
 element-set-from-self : tie.Need-element-set-from-self Inv-loop μ-loop
-element-set-from-self c = let k = known (small-turn (c .before .before)) .row-low in omega arith
+element-set-from-self c = let k = known (small-turn (c .before .before .before)) .row-low in omega arith
 
 mul-put-item : tie.Need-mul-put-item Inv-loop μ-loop
-mul-put-item c = let h = small (c .before .before .before) in let g = good (small-turn (c .before .before .before)) in omega arith
+mul-put-item c = let h = small (c .before .before .before .before) in let g = good (small-turn (c .before .before .before .before)) in omega arith
 
 put-item-requires : tie.Need-put-item-requires Inv-loop μ-loop
-put-item-requires c κs = room (small-turn (c .before .before .before))
+put-item-requires c κs = room (small-turn (c .before .before .before .before))
 
 sub-left : tie.Need-sub-left Inv-loop μ-loop
-sub-left c = let e = small-put c .before .kind .given in omega (arith, small-covered (known (small-turn (small-put c))) (e .0 .0) (e .0 .1 .0) (e .1) (sym (c .before .before .before .before .before .goes .ensures) ∙ c .before .before .before .before .if1 .taken))
+sub-left c = let e = small-put c .before .kind2 .given .0 in omega (arith, small-covered (known (small-turn (small-put c))) (e .0) (e .1 .0) (small-kind (small-put c)) (sym (c .before .before .before .before .before .before .goes .ensures) ∙ c .before .before .before .before .before .if1 .taken))
 
 add-m : tie.Need-add-m Inv-loop μ-loop
 add-m c = let i = small-turn (small-put c) in omega (arith, i .loop-test .taken, i .before .loop .inv, i .before .before .before .before .fits .n)
@@ -129,11 +147,12 @@ loop-less c = let h = small-turn (small-put c) .loop-test .taken in omega arith
 loop-again : tie.Need-loop-again Inv-loop μ-loop
 loop-again c =
     let i = small-turn (small-put c) in
-    let e = small-put c .before .kind .given in (
+    let e = small-put c .before .kind2 .given .0 in (
       omega (arith, i .loop-test .taken),
       omega (arith, i .before .loop .inv),
       omega (arith, i .before .loop .inv),
-      small-chosen (known i) (e .0 .0) (e .0 .1 .0) (e .1) (sym (c .before .before .before .before .before .goes .ensures) ∙ c .before .before .before .before .if1 .taken) (room i) (c .before .before .put-item .last .0) (c .before .before .put-item .ensures),
+      rw (c .before .before .before .before .new .ensures)
+          (small-chosen (known i) (e .0) (e .1 .0) (small-kind (small-put c)) (sym (c .before .before .before .before .before .before .goes .ensures) ∙ c .before .before .before .before .before .if1 .taken) (room i) (c .before .before .put-item .last .0) (c .before .before .put-item .ensures)),
     )
 
 loop-less-2 : tie.Need-loop-less-2 Inv-loop μ-loop
@@ -142,11 +161,11 @@ loop-less-2 c = let h = small-turn (c .before .before) .loop-test .taken in omeg
 loop-again-2 : tie.Need-loop-again-2 Inv-loop μ-loop
 loop-again-2 c =
     let i = small-turn (c .before .before) in
-    let e = c .before .before .before .kind .given in (
+    let e = c .before .before .before .kind2 .given .0 in (
       omega (arith, i .loop-test .taken),
       omega (arith, i .before .loop .inv),
       i .before .loop .inv .2,
-      small-passed (known i) (e .0 .0) (e .0 .1 .0) (e .1) (sym (c .before .goes .ensures) ∙ c .if1 .left),
+      small-passed (known i) (e .0) (e .1 .0) (small-kind (c .before .before)) (sym (c .before .goes .ensures) ∙ c .if1 .left),
     )
 
 enum-known-kind-2 : tie.Need-enum-known-kind-2 Inv-loop μ-loop
@@ -170,40 +189,46 @@ slice-len-requires c κs = let h = piece (c .before .before) in let g = good (pi
 goes-requires-2 : tie.Need-goes-requires-2 Inv-loop μ-loop
 goes-requires-2 c κs = piece (c .before .before .before .before) .sent
 
-add-t61 : tie.Need-add-t61 Inv-loop μ-loop
-add-t61 c = let h = piece (c .before .before .before .before .before .before) in omega (arith, h .piece, h .most)
+add-t60 : tie.Need-add-t60 Inv-loop μ-loop
+add-t60 c = let h = piece (c .before .before .before .before .before .before) in omega (arith, h .piece, h .most)
 
-mul-t61 : tie.Need-mul-t61 Inv-loop μ-loop
-mul-t61 c = let k = known (piece-turn (c .before .before .before .before .before .before)) .row-low in omega arith
+new-requires-2 : tie.Need-new-requires-2 Inv-loop μ-loop
+new-requires-2 c κs =
+    let h = piece (c .before .before .before .before .before .before) in
+    let g = good (piece-turn (c .before .before .before .before .before .before)) in
+    (omega (arith, h .fits, g .pieces-most), omega (arith, h .low, g .lanes-most), omega (arith, h .fewer, h .most), omega (arith, h .piece, h .most))
+
+mul-t62 : tie.Need-mul-t62 Inv-loop μ-loop
+mul-t62 c = let k = known (piece-turn (c .before .before .before .before .before .before .before)) .row-low in omega arith
 
 element-set-from-self-2 : tie.Need-element-set-from-self-2 Inv-loop μ-loop
-element-set-from-self-2 c = let k = known (piece-turn (c .before .before .before .before .before .before)) .row-low in omega arith
+element-set-from-self-2 c = let k = known (piece-turn (c .before .before .before .before .before .before .before)) .row-low in omega arith
 
-mul-t61-2 : tie.Need-mul-t61-2 Inv-loop μ-loop
-mul-t61-2 c = let h = piece (c .before .before .before .before .before .before) .entry in omega arith
+mul-t60 : tie.Need-mul-t60 Inv-loop μ-loop
+mul-t60 c = let h = piece (c .before .before .before .before .before .before .before) .entry in omega arith
 
 element-set-from-self-3 : tie.Need-element-set-from-self-3 Inv-loop μ-loop
-element-set-from-self-3 c = let h = piece (c .before .before .before .before .before .before) .entry in omega arith
+element-set-from-self-3 c = let h = piece (c .before .before .before .before .before .before .before) .entry in omega arith
 
 mul-place : tie.Need-mul-place Inv-loop μ-loop
-mul-place c = let h = piece (c .before .before .before .before .before .before) in let e = lane-end _ (good (piece-turn (c .before .before .before .before .before .before))) _ (h .low) in omega arith
+mul-place c = let h = piece (c .before .before .before .before .before .before .before) in let e = lane-end _ (good (piece-turn (c .before .before .before .before .before .before .before))) _ (h .low) in omega arith
 
 mul-place-2 : tie.Need-mul-place-2 Inv-loop μ-loop
-mul-place-2 c = let h = piece (c .before .before .before .before .before .before) in let e = lane-end _ (good (piece-turn (c .before .before .before .before .before .before))) _ (h .low) in omega (arith, h .piece, h .most)
+mul-place-2 c = let h = piece (c .before .before .before .before .before .before .before) in let e = lane-end _ (good (piece-turn (c .before .before .before .before .before .before .before))) _ (h .low) in omega (arith, h .piece, h .most)
 
 add-place : tie.Need-add-place Inv-loop μ-loop
-add-place c = let h = piece (c .before .before .before .before .before .before) in let e = lane-end _ (good (piece-turn (c .before .before .before .before .before .before))) _ (h .low) in omega (arith, h .piece, h .most)
+add-place c = let h = piece (c .before .before .before .before .before .before .before) in let e = lane-end _ (good (piece-turn (c .before .before .before .before .before .before .before))) _ (h .low) in omega (arith, h .piece, h .most)
 
 num-slices-requires : tie.Need-num-slices-requires Inv-loop μ-loop
-num-slices-requires c κs = let h = piece (c .before .before .before .before .before .before .before) .fits in let g = good (piece-turn (c .before .before .before .before .before .before .before)) in omega arith
+num-slices-requires c κs = let h = piece (c .before .before .before .before .before .before .before .before) .fits in let g = good (piece-turn (c .before .before .before .before .before .before .before .before)) in omega arith
 
 put-item-requires-2 : tie.Need-put-item-requires-2 Inv-loop μ-loop
-put-item-requires-2 c κs = room (piece-turn (c .before .before .before .before .before .before .before .before))
+put-item-requires-2 c κs = room (piece-turn (c .before .before .before .before .before .before .before .before .before))
 
 sub-left-2 : tie.Need-sub-left-2 Inv-loop μ-loop
 sub-left-2 c =
-    let e = piece-put c .before .kind2 .given in
-    omega (arith, piece-covered (known (piece-turn (piece-put c))) (e .0 .0) (e .0 .1 .0) (e .0 .1 .1 .0) (e .1) (sym (c .before .before .before .before .before .before .goes2 .ensures) ∙ c .before .before .before .before .before .if3 .taken), c .before .before .before .before .before .before .before .before .slice-len .ensures)
+    let e = piece-put c .before .kind3 .given .0 in
+    omega (arith, piece-covered (known (piece-turn (piece-put c))) (e .0) (e .1 .0) (e .1 .1 .0) (piece-kind (piece-put c)) (sym (c .before .before .before .before .before .before .before .goes2 .ensures) ∙ c .before .before .before .before .before .before .if3 .taken), c .before .before .before .before .before .before .before .before .before .slice-len .ensures)
 
 add-m-2 : tie.Need-add-m-2 Inv-loop μ-loop
 add-m-2 c = let i = piece-turn (piece-put c) in omega (arith, i .loop-test .taken, i .before .loop .inv, i .before .before .before .before .fits .n)
@@ -214,14 +239,15 @@ loop-less-3 c = let h = piece-turn (piece-put c) .loop-test .taken in omega arit
 loop-again-3 : tie.Need-loop-again-3 Inv-loop μ-loop
 loop-again-3 c =
     let i = piece-turn (piece-put c) in
-    let e = piece-put c .before .kind2 .given in
+    let e = piece-put c .before .kind3 .given .0 in
     let num = c .before .before .before .num-slices in
-    let size = c .before .before .before .before .before .before .before .before .slice-len in (
+    let size = c .before .before .before .before .before .before .before .before .before .slice-len in (
       omega (arith, i .loop-test .taken),
       omega (arith, i .before .loop .inv),
       omega (arith, i .before .loop .inv),
-      piece-chosen (known i) (e .0 .0) (e .0 .1 .0) (e .0 .1 .1 .0) (e .1) (c .before .before .before .before .before .before .before .if2 .taken) (sym (c .before .before .before .before .before .before .goes2 .ensures) ∙ c .before .before .before .before .before .if3 .taken) (room i)
-          (c .before .before .put-item2 .last .0) (num .result) (size .result) (num .ensures) (size .ensures) (c .before .before .put-item2 .ensures),
+      rw (c .before .before .before .before .before .new2 .ensures)
+          (piece-chosen (known i) (e .0) (e .1 .0) (e .1 .1 .0) (piece-kind (piece-put c)) (c .before .before .before .before .before .before .before .before .if2 .taken) (sym (c .before .before .before .before .before .before .before .goes2 .ensures) ∙ c .before .before .before .before .before .before .if3 .taken) (room i)
+          (c .before .before .put-item2 .last .0) (num .result) (size .result) (num .ensures) (size .ensures) (c .before .before .put-item2 .ensures)),
     )
 
 loop-less-4 : tie.Need-loop-less-4 Inv-loop μ-loop
@@ -229,13 +255,14 @@ loop-less-4 c = let h = piece-turn (c .before .before .before .before) .loop-tes
 
 loop-again-4 : tie.Need-loop-again-4 Inv-loop μ-loop
 loop-again-4 c =
-    let i = piece-turn (c .before .before .before .before) in
-    let e = c .before .before .before .before .before .kind2 .given in (
+    let d = c .before .before .before .before in
+    let i = piece-turn d in
+    let e = d .before .kind3 .given .0 in (
       omega (arith, i .loop-test .taken),
       omega (arith, i .before .loop .inv),
       i .before .loop .inv .2,
-      ⊎-elim (λ w. piece-stays (known i) (e .0 .0) (e .0 .1 .0) (e .0 .1 .1 .0) (e .1) (w .0 .taken) (sym (w .1 .ensures) ∙ w .2 .left))
-          (λ w. piece-acked (known i) (e .0 .0) (e .0 .1 .0) (e .0 .1 .1 .0) (e .1) (w .left)) (c .if2 .came),
+      ⊎-elim (λ w. piece-stays (known i) (e .0) (e .1 .0) (e .1 .1 .0) (piece-kind d) (w .0 .taken) (sym (w .1 .ensures) ∙ w .2 .left))
+          (λ w. piece-acked (known i) (e .0) (e .1 .0) (e .1 .1 .0) (piece-kind d) (w .left)) (c .if2 .came),
     )
 
 same-length : tie.Need-same-length Inv-loop μ-loop
@@ -266,9 +293,12 @@ select-spec =
     add-v
     mul-row
     element-copy-out-row
+    cast-len
+    kind-requires
     enum-known-kind
     goes-requires
-    mul-t47
+    new-requires
+    mul-t45
     element-set-from-self
     mul-put-item
     put-item-requires
@@ -285,10 +315,11 @@ select-spec =
     element-copy-out-piece
     slice-len-requires
     goes-requires-2
-    add-t61
-    mul-t61
+    add-t60
+    new-requires-2
+    mul-t62
     element-set-from-self-2
-    mul-t61-2
+    mul-t60
     element-set-from-self-3
     mul-place
     mul-place-2

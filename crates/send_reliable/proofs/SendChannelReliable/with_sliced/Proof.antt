@@ -8,6 +8,7 @@ use Rattle.words.specs.Sizes.{LANES, PIECES}
 use Rattle.words.specs.Lists.{splice}
 use Rattle.send_reliable.specs.Sender.{noPiece}
 use Rattle.send_reliable.specs.Queue.{addSliced}
+use Rattle.send_reliable.specs.QueueSteps.{RowFits}
 use Rattle.send_reliable.proofs.Queueing.{withPieces, cleared-none, cleared-more, cleared-all}
 use borrow.Author.Needs.{needs}
 use Rattle.send_reliable.proofs.SendChannelReliable.with_sliced.Statement.{statement}
@@ -34,11 +35,11 @@ loop-holds c = (omega arith, omega (arith, c .num-slices .ensures), c .before .p
 blank-requires : tie.Need-blank-requires Inv-loop μ-loop
 blank-requires c κs = search needs
 
-add-t12 : tie.Need-add-t12 Inv-loop μ-loop
-add-t12 c = omega arith
+add-t14 : tie.Need-add-t14 Inv-loop μ-loop
+add-t14 c = omega arith
 
-mul-t13 : tie.Need-mul-t13 Inv-loop μ-loop
-mul-t13 c = omega arith
+mul-t15 : tie.Need-mul-t15 Inv-loop μ-loop
+mul-t15 c = omega arith
 
 element-set-from-self : tie.Need-element-set-from-self Inv-loop μ-loop
 element-set-from-self c = omega arith
@@ -54,15 +55,34 @@ loop-again c =
     let l = c .before .before .loop in
     (omega arith, l .inv .1, l .inv .2, cleared-more _ _ _ _ _ _ (c .before .loop-test .taken) (c .blank .ensures) (l .inv .3))
 
-with-row-requires : tie.Need-with-row-requires Inv-loop μ-loop
-with-row-requires c κs = let f = c .before .before .before .pre .0 in rw (c .before .loop .inv .3) record { low = f .low; ids = f .ids; memory = f .memory }
+new-requires : tie.Need-new-requires Inv-loop μ-loop
+new-requires c κs = let p = c .before .before .before .pre in (p .2, p .1, omega arith, omega arith)
+
+-- nothing but the pieces changed, so that there is room for the row
+fits : (c : tie.After-new Inv-loop μ-loop) → RowFits (c .before .before .loop .self) (c .before .before .before .before .args .n)
+fits c = let f = c .before .before .before .before .pre .0 in rw (c .before .before .loop .inv .3) record { low = f .low; ids = f .ids; memory = f .memory }
+
+mul-t21 : tie.Need-mul-t21 Inv-loop μ-loop
+mul-t21 c = omega (arith, fits c .low)
+
+element-set-from-self-2 : tie.Need-element-set-from-self-2 Inv-loop μ-loop
+element-set-from-self-2 c = omega (arith, fits c .low)
+
+add-self : tie.Need-add-self Inv-loop μ-loop
+add-self c = omega (arith, fits c .low)
+
+add-self-2 : tie.Need-add-self-2 Inv-loop μ-loop
+add-self-2 c = omega (arith, fits c .memory)
+
+add-self-3 : tie.Need-add-self-3 Inv-loop μ-loop
+add-self-3 c = omega (arith, fits c .ids)
 
 returns : tie.Need-returns Inv-loop μ-loop
 unfolding addSliced
 returns c =
     let end = c .before in
     let e = cleared-all _ _ _ _ _ (end .loop-test .left) (end .before .loop .inv .3) in
-    simp (c .with-row .ensures, e, end .before .before .num-slices .ensures)
+    simp (c .new .ensures, e, end .before .before .num-slices .ensures)
 
 pub with-sliced-spec : {M : Type 1} → statement M
 with-sliced-spec =
@@ -75,11 +95,16 @@ with-sliced-spec =
     mul-base
     loop-holds
     blank-requires
-    add-t12
-    mul-t13
+    add-t14
+    mul-t15
     element-set-from-self
     add-i
     loop-less
     loop-again
-    with-row-requires
+    new-requires
+    mul-t21
+    element-set-from-self-2
+    add-self
+    add-self-2
+    add-self-3
     returns)
