@@ -62,9 +62,6 @@ module _ {s : List ℕ} {at : ℕ} where
     pub here-taken : take (length bs) (drop at s) ≡ bs
     here-taken = suffix.run s at bs (h .rest) (h .goes-on)
 
-    pub here-bytes : Bytes s → Bytes bs
-    here-bytes b = all-left (λ x. x < 256) bs (h .rest) (rw (h .goes-on) at (all-drop (λ x. x < 256) at s b))
-
 -- what is spelt is read wherever it stands: between any others, and where it was written
 module _ {A : Type 0} {m : Reader A} {R : Spelling A} (l : Exact m R) {a : A} {bs : List ℕ} where
   pub read-between : (p q : List ℕ) → R (length p) a bs → m (p ++ (bs ++ q)) (length p) ≡ ok a (length p + length bs)
@@ -221,9 +218,6 @@ module _ {A B : Type 0} {m : Reader A} {R : Spelling A} where
           let x = here-front xs ys h in
           let n : at + length xs + length ys ≡ at + length (xs ++ ys) = rw length-append (omega arith) in
           rw (l .complete s at i x u) (r a .complete s (at + length xs) (here-fits x i) (here-back xs ys h) v ∙ ap (ok b) n)
-
-  pub exact-next : {k : Reader B} {S : Spelling B} → Exact m R → Exact k S → Exact (_>>_ m k) (Then R (λ a. S))
-  exact-next l r = exact-then l (λ a. r)
 
 -- the same relation, said in another way
 pub exact-as : {A : Type 0} {m : Reader A} {R S : Spelling A}

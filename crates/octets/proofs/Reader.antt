@@ -43,22 +43,6 @@ module _ {A B : Type 0} {m : Reader A} {k : A → Reader B} where
   pub keeps-then : Keeps A m → ((a : A) → Keeps B (k a)) → Keeps B (_>>=_ m k)
   keeps-then l f = record { keeps = λ s at h. inside (length s) (m s at) (λ a. k a s) (l .keeps s at h) (λ a. f a .keeps s) }
 
-pub byte-lands : Lands ℕ byte
-unfolding byte
-byte-lands = record { lands = λ s at. go s at (ltb at (length s)) refl }
-  where
-    go : (s : List ℕ) (at : ℕ) (t : Bool) → ltb at (length s) ≡ t → Inside (length s) (byte s at)
-    go s at true p = simp p (omega (arith, ltb-true at (length s) p))
-    go s at false p = simp p tt
-
-pub pair-lands : Lands ℕ pair
-unfolding pair
-pair-lands = record { lands = λ s at. go s at (leb (at + 2) (length s)) refl }
-  where
-    go : (s : List ℕ) (at : ℕ) (t : Bool) → leb (at + 2) (length s) ≡ t → Inside (length s) (pair s at)
-    go s at true p = simp p (leb-true _ _ p)
-    go s at false p = simp p tt
-
 pub bytes-lands : (n : ℕ) → Lands ℕ (bytes n)
 unfolding bytes
 bytes-lands n = record { lands = λ s at. go s at (leb (at + n) (length s)) refl }

@@ -33,9 +33,3 @@ module _ (n i : ℕ) (h : i < piecesOf n) where
       pick-cases (λ k. i * SLICE_SIZE + k ≤ n) (eqb (i + 1) (piecesOf n))
       (λ e. omega arith)
       (λ e. let l = eqb-false (i + 1) (piecesOf n) e in omega arith)
-
-  pub piece-some : 0 < pieceLen n i
-  piece-some =
-      pick-cases (λ k. 0 < k) (eqb (i + 1) (piecesOf n))
-      (λ e. omega arith)
-      (λ e. omega arith)

@@ -1,11 +1,7 @@
 -- What comes of a round: the two answers of `send`, and that there is one outcome only. Assumes nothing.
 use Prim.Native.Nat.{ℕ, _+_, _*_, _≤_}
 use mathlib.Core.Path.{_≡_, refl, sym, ap, _∙_}
-use mathlib.Core.Bool.{false}
 use mathlib.Core.List.{List}
-use native.Mathlib.Omega.{arith}
-use borrow.Author.Tests.{ne-eqb}
-use lib.Dec.{eqb}
 use lib.ListN.{length}
 use Rattle.words.specs.Sizes.{SLICE_SIZE}
 use Rattle.words.specs.Lists.{total, All}
@@ -13,6 +9,7 @@ use Rattle.words.specs.Refusal.{numberOf}
 use Rattle.words.specs.declared.Refusal.{Refusal}
 use Rattle.words.proofs.Lists.{all-map}
 use Rattle.words.proofs.Unique.{told-apart, refusalOf, refusal-undone}
+use Rattle.words.proofs.Unique.{numbered-above}
 use Rattle.pack.specs.Pack.{Item, itemsIn, Pack, pack}
 use Rattle.pack.specs.Encode.{Lent, roundRefusal, outAfter, tableAfter}
 use Rattle.pack.specs.Rows.{PACK, packsIn, Packs, Chosen, Ready, roundNumber, verdictOf}
@@ -24,10 +21,6 @@ use Rattle.pack.specs.declared.Written.{Written}
 use Rattle.pack.specs.declared.Went.{Went}
 use Rattle.pack.specs.declared.Went.the-variants.{Sent, Refused}
 use Rattle.pack.proofs.Theorems.{payload-kept, bytes-told, judged, ready}
-
--- 0 is no refusal's number
-pub numbered-above : (e : Refusal) → eqb (numberOf e) 0 ≡ false
-numbered-above e = ne-eqb (numberOf e) 0 (λ z. let s = ap numberOf (sym (ap refusalOf z) ∙ refusal-undone e) in omega arith)
 
 -- what was chosen is short
 pub chosen-short : (l : Lent) (is : List Item) → All (Chosen l) is → All (λ i. i .len ≤ SLICE_SIZE) is

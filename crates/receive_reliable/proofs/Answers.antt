@@ -1,69 +1,30 @@
 -- What the private functions answer, by the tests that led there. Assumes nothing.
 use Prim.Native.Nat.{ℕ, _+_, _-_, _*_, _≤_, _<_}
-use mathlib.Core.Path.{_≡_, refl, sym, ap, _∙_}
+use mathlib.Core.Path.{_≡_, refl, ap, _∙_}
 use mathlib.Core.Bool.{Bool, true, false}
 use mathlib.Core.List.{List, [], _∷_}
 use mathlib.Core.Logic.{⊎-elim}
 use native.Mathlib.Omega.{arith}
 use borrow.Author.Tests.{lt-ltb, le-ltb, le-leb, lt-leb, eq-eqb, ne-eqb}
-use lib.Dec.{eqb}
-use lib.ListN.{getD, take, drop}
+use lib.Dec.{ltb, eqb}
+use lib.ListN.{take, drop}
 use types.Run.{OneOf}
 use denote.Enum.Declared.{tagOf}
-use Rattle.words.specs.Sizes.{SLICE_SIZE, SLOTS, LANES, LIMIT}
+use Rattle.words.specs.Sizes.{SLICE_SIZE, LIMIT}
 use Rattle.words.specs.Choice.{pick}
 use Rattle.words.specs.Lists.{lowestFree}
 use Rattle.channel.specs.Settings.{storesHold}
-use Rattle.slice_constructor.specs.declared.SliceConstructor.{SliceConstructor}
-use Rattle.slice_constructor.specs.Collect as c
-use Rattle.receive_reliable.specs.Receive.{cellOf, laneOf, inCell, inLane, isHeld, ignores, Outcome, taken, ignored, refused, arrivalOf, judged, entryRefusal, messageRefusal, MessageSpot, cell, nowhere, messageSpot, SliceSpot, opened, fresh, nothing, countRefusal, freshRefusal, constructorAt, Waiting, message, lookOf, partAt, Valid}
-use Rattle.receive_reliable.specs.Steps.{heldIn, entryOf, openLane, freshLane, laneSpot}
+use Rattle.receive_reliable.specs.Receive.{laneOf, inLane, isHeld, ignores, Outcome, taken, ignored, refused, arrivalOf, judged, entryRefusal, messageRefusal, MessageSpot, cell, nowhere, messageSpot, SliceSpot, opened, fresh, nothing, countRefusal, freshRefusal, constructorAt, Waiting, message, lookOf, partAt}
+use Rattle.receive_reliable.specs.Steps.{entryOf, told, messagePlaceOf, slicePlaceOf, noCell, noLane, openLane, freshLane, laneSpot}
 use Rattle.receive_reliable.specs.declared.ReceiveChannelReliable.{ReceiveChannelReliable}
 use Rattle.receive_reliable.specs.declared.Store.the-variants.{Small, Lanes}
-use Rattle.receive_reliable.specs.declared.Held.the-variants as held
 use Rattle.receive_reliable.specs.declared.Arrival.{Arrival}
 use Rattle.receive_reliable.proofs.Arrival.{the-type}
 use Rattle.receive_reliable.specs.declared.Look.{Look}
 use Rattle.receive_reliable.specs.declared.Look.the-variants as look
 use Rattle.receive_reliable.proofs.Look as Look′
 use Rattle.receive_reliable.specs.declared.Arrival.the-variants as arrival
-use Rattle.words.proofs.Tables.{getD-any, part-size}
-
--- ---- whether a search found something
-
-module _ (s : ReceiveChannelReliable) (id l : ℕ) (el : l ≡ laneOf s id) where
-  lane-yes : l < LANES → inLane s id ≡ true
-  lane-yes h = lt-ltb (laneOf s id) LANES (omega arith)
-
-  lane-no : LANES ≤ l → inLane s id ≡ false
-  lane-no h = le-ltb (laneOf s id) LANES (omega arith)
-
--- ---- a whole message
-
-module _ (s : ReceiveChannelReliable) (id i : ℕ) (ei : i ≡ cellOf s id) where
-  pub in-cell : i < SLOTS → held.At Small i ≡ heldIn s id
-  unfolding heldIn
-  in-cell h = let t : inCell s id ≡ true = lt-ltb (cellOf s id) SLOTS (omega arith) in rw t (ap (held.At Small) ei)
-
-  module _ (past : SLOTS ≤ i) (l : ℕ) (el : l ≡ laneOf s id) where
-    no-cell : inCell s id ≡ false
-    no-cell = le-ltb (cellOf s id) SLOTS (omega arith)
-
-    pub in-lane : l < LANES → getD (s .whole) l false ≡ true → held.At Lanes l ≡ heldIn s id
-    unfolding heldIn
-    in-lane h w =
-        let u : getD (s .whole) (laneOf s id) false ≡ true = rw (← el) w in
-        rw (no-cell, lane-yes s id l el h, u) (ap (held.At Lanes) el)
-
-    pub in-part : l < LANES → getD (s .whole) l false ≡ false → held.Nothing ≡ heldIn s id
-    unfolding heldIn
-    in-part h w =
-        let u : getD (s .whole) (laneOf s id) false ≡ false = rw (← el) w in
-        rw (no-cell, lane-yes s id l el h, u)
-
-    pub in-none : LANES ≤ l → held.Nothing ≡ heldIn s id
-    unfolding heldIn
-    in-none h = rw (no-cell, lane-no s id l el h)
+use Rattle.words.proofs.Tables.{clash, part-size}
 
 -- ---- what every arrival is judged by first
 
@@ -86,23 +47,30 @@ module _ (s : ReceiveChannelReliable) (id small lane : ℕ) where
       unfolding entryOf entryRefusal ignores
       new-id o b e = rw (h, lt-leb _ _ n, le-ltb _ _ o, e)
 
--- on to m where what arrives may be taken, else told as f says
-going : {A : Type 0} → (Outcome → A) → A → Outcome → A
-going f m taken = m
-going f m ignored = f ignored
-going f m (refused e) = f (refused e)
+-- what may be taken is not held whole
+not-both : (a b : Bool) (x : ℕ) → taken ≡ pick a (pick b ignored taken) (refused x) → b ≡ false
+not-both true true x e = clash (cc)
+not-both true false x e = refl
+not-both false b x e = clash (cc)
 
-gone : {A : Type 0} (f : Outcome → A) (m : A) (a b : Bool) (x : ℕ) → going f m (pick a (pick b ignored taken) (refused x)) ≡ pick a (pick b (f ignored) m) (f (refused x))
-unfolding going
+not-either : (a b : Bool) → pick a true b ≡ false → b ≡ false
+not-either true b e = clash (cc)
+not-either false b e = e
+
+pub not-held : (s : ReceiveChannelReliable) (id small lane : ℕ) → taken ≡ entryOf s id small lane → isHeld s id ≡ false
+unfolding entryOf ignores
+not-held s id small lane go =
+    not-either (ltb id (s .«oldest_pending_message_id»)) (isHeld s id) (not-both (eqb (entryRefusal s id small lane) 0) (ignores s id) (entryRefusal s id small lane) go)
+
+gone : {A : Type 0} (f : Outcome → A) (m : A) (a b : Bool) (x : ℕ) → told f m (pick a (pick b ignored taken) (refused x)) ≡ pick a (pick b (f ignored) m) (f (refused x))
 gone f m true true x = refl
 gone f m true false x = refl
 gone f m false b x = refl
 
-stops : {A : Type 0} (f : Outcome → A) (m : A) (a : Arrival) → OneOf (1 ∷ 2 ∷ []) (tagOf the-type a) → f (arrivalOf a) ≡ going f m (arrivalOf a)
-unfolding going
-stops f m arrival.Taken k = ⊎-elim (λ e. absurd (omega arith)) (λ e. absurd (omega arith)) k
-stops f m arrival.Ignored k = refl
-stops f m (arrival.Refused e) k = refl
+stops : {A : Type 0} (f : Outcome → A) (x m : A) (a : Arrival) → OneOf (1 ∷ 2 ∷ []) (tagOf the-type a) → told f x (arrivalOf a) ≡ told f m (arrivalOf a)
+stops f x m arrival.Taken k = ⊎-elim (λ e. absurd (omega arith)) (λ e. absurd (omega arith)) k
+stops f x m arrival.Ignored k = refl
+stops f x m (arrival.Refused e) k = refl
 
 -- ---- a small message
 
@@ -110,31 +78,27 @@ module _ (s : ReceiveChannelReliable) (id n small lane : ℕ) where
   messageOn : MessageSpot
   messageOn = judged (messageRefusal s id n) (λ e. nowhere (refused e)) (cell (lowestFree (s .cells) (s .settings .slots)))
 
-  message-goes : going nowhere messageOn (entryOf s id small lane) ≡ messageSpot s id n small lane
+  message-goes : told nowhere messageOn (entryOf s id small lane) ≡ messageSpot s id n small lane
   unfolding messageOn entryOf messageSpot
   message-goes = gone nowhere messageOn (eqb (entryRefusal s id small lane) 0) (ignores s id) (entryRefusal s id small lane)
 
-  pub message-stops : (a : Arrival) → arrivalOf a ≡ entryOf s id small lane → OneOf (1 ∷ 2 ∷ []) (tagOf the-type a) → nowhere (arrivalOf a) ≡ messageSpot s id n small lane
-  message-stops a e k = stops nowhere messageOn a k ∙ ap (going nowhere messageOn) e ∙ message-goes
+  pub message-stops : (a : Arrival) → arrivalOf a ≡ entryOf s id small lane → OneOf (1 ∷ 2 ∷ []) (tagOf the-type a) → messagePlaceOf (noCell a) ≡ messageSpot s id n small lane
+  message-stops a e k = stops nowhere (cell 0) messageOn a k ∙ ap (told nowhere messageOn) e ∙ message-goes
 
   module _ (go : taken ≡ entryOf s id small lane) where
     message-on : messageOn ≡ messageSpot s id n small lane
-    unfolding going
-    message-on = ap (going nowhere messageOn) go ∙ message-goes
+    message-on = ap (told nowhere messageOn) go ∙ message-goes
 
     pub too-long : SLICE_SIZE < n → nowhere (refused 12) ≡ messageSpot s id n small lane
     unfolding messageOn messageRefusal
     too-long h = rw (lt-ltb _ _ h) at message-on
 
-    module _ (short : n ≤ SLICE_SIZE) (l : ℕ) (el : l ≡ laneOf s id) where
-      pub wrong-kind : l < LANES → nowhere (refused 16) ≡ messageSpot s id n small lane
+    module _ (short : n ≤ SLICE_SIZE) where
+      pub wrong-kind : inLane s id ≡ true → nowhere (refused 16) ≡ messageSpot s id n small lane
       unfolding messageOn messageRefusal
-      wrong-kind h = rw (le-ltb _ _ short, lane-yes s id l el h) at message-on
+      wrong-kind t = rw (le-ltb _ _ short, t) at message-on
 
-      module _ (no-lane : LANES ≤ l) where
-        t : inLane s id ≡ false
-        t = lane-no s id l el no-lane
-
+      module _ (t : inLane s id ≡ false) where
         pub no-memory : s .settings .«max_memory_usage_bytes» < s .«memory_usage_bytes» + n → nowhere (refused 7) ≡ messageSpot s id n small lane
         unfolding messageOn messageRefusal
         no-memory h = rw (le-ltb _ _ short, t, lt-ltb _ _ h) at message-on
@@ -154,17 +118,16 @@ module _ (s : ReceiveChannelReliable) (id num small lane : ℕ) where
   sliceOn : SliceSpot
   sliceOn = judged (countRefusal s num) (λ e. nothing (refused e)) (pick (inLane s id) (openLane s (laneOf s id) num) (freshLane s num))
 
-  slice-goes : going nothing sliceOn (entryOf s id small lane) ≡ laneSpot s id num small lane
+  slice-goes : told nothing sliceOn (entryOf s id small lane) ≡ laneSpot s id num small lane
   unfolding sliceOn entryOf laneSpot
   slice-goes = gone nothing sliceOn (eqb (entryRefusal s id small lane) 0) (ignores s id) (entryRefusal s id small lane)
 
-  pub slice-stops : (a : Arrival) → arrivalOf a ≡ entryOf s id small lane → OneOf (1 ∷ 2 ∷ []) (tagOf the-type a) → nothing (arrivalOf a) ≡ laneSpot s id num small lane
-  slice-stops a e k = stops nothing sliceOn a k ∙ ap (going nothing sliceOn) e ∙ slice-goes
+  pub slice-stops : (a : Arrival) → arrivalOf a ≡ entryOf s id small lane → OneOf (1 ∷ 2 ∷ []) (tagOf the-type a) → slicePlaceOf (noLane a) ≡ laneSpot s id num small lane
+  slice-stops a e k = stops nothing (opened 0) sliceOn a k ∙ ap (told nothing sliceOn) e ∙ slice-goes
 
   module _ (go : taken ≡ entryOf s id small lane) where
     slice-on : sliceOn ≡ laneSpot s id num small lane
-    unfolding going
-    slice-on = ap (going nothing sliceOn) go ∙ slice-goes
+    slice-on = ap (told nothing sliceOn) go ∙ slice-goes
 
     pub no-pieces : num ≡ 0 → nothing (refused 8) ≡ laneSpot s id num small lane
     unfolding sliceOn countRefusal
@@ -175,16 +138,14 @@ module _ (s : ReceiveChannelReliable) (id num small lane : ℕ) where
       unfolding sliceOn countRefusal
       too-many h = rw (ne-eqb _ _ some, lt-ltb _ _ h) at slice-on
 
-      module _ (most : num ≤ s .settings .pieces) (l : ℕ) (el : l ≡ laneOf s id) (x : SliceSpot) where
-        pub is-open : l < LANES → x ≡ openLane s l num → x ≡ laneSpot s id num small lane
+      module _ (most : num ≤ s .settings .pieces) (x : SliceSpot) where
+        pub is-open : (l : ℕ) → laneOf s id ≡ l → inLane s id ≡ true → x ≡ openLane s l num → x ≡ laneSpot s id num small lane
         unfolding sliceOn countRefusal
-        is-open h e =
-            e ∙ rw (ne-eqb _ _ some, le-ltb _ _ most, lane-yes s id l el h, ← el) at slice-on
+        is-open l el t e = e ∙ rw (ne-eqb _ _ some, le-ltb _ _ most, t, el) at slice-on
 
-        pub is-fresh : LANES ≤ l → x ≡ freshLane s num → x ≡ laneSpot s id num small lane
+        pub is-fresh : inLane s id ≡ false → x ≡ freshLane s num → x ≡ laneSpot s id num small lane
         unfolding sliceOn countRefusal
-        is-fresh h e =
-            e ∙ rw (ne-eqb _ _ some, le-ltb _ _ most, lane-no s id l el h) at slice-on
+        is-fresh t e = e ∙ rw (ne-eqb _ _ some, le-ltb _ _ most, t) at slice-on
 
 -- a lane that is free
 
@@ -202,23 +163,16 @@ module _ (s : ReceiveChannelReliable) (num : ℕ) where
     unfolding freshLane freshRefusal
     lane-free h = rw (le-ltb _ _ memory, ← el, lt-leb _ _ h)
 
--- a lane that is open
+-- a lane that is open, with a charge of n
 
-module _ (s : ReceiveChannelReliable) (v : Valid s) (l : ℕ) (low : l < LANES) (d : SliceConstructor) where
-  pub constructor-here : getD (s .constructors) l d ≡ constructorAt s l
-  constructor-here = getD-any (s .constructors) l d (c.blankOf 0 0) (omega (arith, v .constructors-long))
+module _ (s : ReceiveChannelReliable) (l num n : ℕ) (e : n ≡ SLICE_SIZE * constructorAt s l .«num_slices») where
+  pub same-count : n ≡ SLICE_SIZE * num → opened l ≡ openLane s l num
+  unfolding openLane
+  same-count h = rw (eq-eqb (constructorAt s l .«num_slices») num (omega arith))
 
-  module _ (num n : ℕ) (e : n ≡ getD (s .constructors) l d .«num_slices») where
-    so : n ≡ constructorAt s l .«num_slices»
-    so = rw constructor-here at e
-
-    pub same-count : n ≡ num → opened l ≡ openLane s l num
-    unfolding openLane
-    same-count h = rw (eq-eqb _ _ (sym so ∙ h))
-
-    pub other-count : (n ≡ num → ⊥) → nothing (refused 8) ≡ openLane s l num
-    unfolding openLane
-    other-count h = rw (ne-eqb _ _ (λ k. h (so ∙ k)))
+  pub other-count : (n ≡ SLICE_SIZE * num → ⊥) → nothing (refused 8) ≡ openLane s l num
+  unfolding openLane
+  other-count h = rw (ne-eqb (constructorAt s l .«num_slices») num (λ k. h (e ∙ ap (λ (m : ℕ). SLICE_SIZE * m) k)))
 
 -- ---- the part that a look shows
 

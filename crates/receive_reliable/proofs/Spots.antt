@@ -3,10 +3,13 @@ use Prim.Native.Nat.{ℕ, _+_, _*_, _≤_, _<_}
 use mathlib.Core.Path.{_≡_, refl, sym, ap, _∙_}
 use mathlib.Core.Bool.{Bool, true, false, not}
 use mathlib.Core.List.{[], _∷_}
+use mathlib.Core.Logic.{⊎-elim, inl, inr}
 use native.Mathlib.Omega.{arith}
 use borrow.Author.Tests.{ltb-true, ltb-false, leb-false, eqb-true, eqb-false, not-true, not-false}
 use lib.Dec.{ltb, leb, eqb}
 use lib.ListN.{getD}
+use types.Run.{OneOf}
+use denote.Enum.Declared.{tagOf}
 use Rattle.words.specs.Sizes.{SLICE_SIZE, SLOTS, LANES, LIMIT}
 use Rattle.words.specs.Choice.{pick}
 use Rattle.words.specs.Lists.{All, lowestFree}
@@ -17,62 +20,85 @@ use Rattle.channel.proofs.Held.{Here, found}
 use Rattle.slice_constructor.specs.Collect as c
 use Rattle.slice_constructor.proofs.Valid as cv
 use Rattle.receive_reliable.specs.Receive.{cellOf, laneOf, inCell, inLane, isHeld, ignores, Outcome, ignored, refused, entryRefusal, messageRefusal, cell, nowhere, messageSpot, SliceSpot, opened, fresh, nothing, countRefusal, freshRefusal, constructorAt, placed, openSpot, freshSpot, sliceSpot, Waiting, message, none-waiting, refusing, waiting, lookAt, afterTake, withoutCell, withoutLane, Valid}
-use Rattle.receive_reliable.specs.Steps.{heldIn, shownAt, openLane, freshLane, laneSpot, Fits}
+use Rattle.receive_reliable.specs.Steps.{heldBy, heldIn, shownAt, openLane, freshLane, laneSpot, Fits}
 use Rattle.receive_reliable.specs.declared.ReceiveChannelReliable.{ReceiveChannelReliable}
 use Rattle.receive_reliable.specs.declared.Store.{Store}
 use Rattle.receive_reliable.specs.declared.Store.the-variants.{Small, Lanes}
 use Rattle.receive_reliable.specs.declared.Held.{Held}
 use Rattle.receive_reliable.specs.declared.Held.the-variants as held
+use Rattle.receive_reliable.proofs.Held as Held′
 use Rattle.receive_reliable.proofs.Valid.{CellSpot, lane-used}
 use Rattle.words.proofs.Tables.{clash}
 
 -- ---- a message that is held
 
-at-small : (a h : Bool) (m l i : ℕ) → pick a (held.At Small m) (pick h (held.At Lanes l) held.Nothing) ≡ held.At Small i → (a ≡ true) × (m ≡ i)
-at-small true h m l i e = (refl, cc)
-at-small false true m l i e = clash (cc)
-at-small false false m l i e = clash (cc)
+at-small : (a b w : Bool) (m l n i : ℕ) → pick a (held.At Small m) (pick b (pick w (held.At Lanes l) (held.Open l n)) held.Nothing) ≡ held.At Small i
+    → (a ≡ true) × (m ≡ i)
+at-small true b w m l n i e = (refl, cc)
+at-small false true true m l n i e = clash (cc)
+at-small false true false m l n i e = clash (cc)
+at-small false false w m l n i e = clash (cc)
 
-at-lanes : (a h : Bool) (m l i : ℕ) → pick a (held.At Small m) (pick h (held.At Lanes l) held.Nothing) ≡ held.At Lanes i → (a ≡ false) × (h ≡ true) × (l ≡ i)
-at-lanes true h m l i e = clash (cc)
-at-lanes false true m l i e = (refl, refl, cc)
-at-lanes false false m l i e = clash (cc)
+at-lanes : (a b w : Bool) (m l n i : ℕ) → pick a (held.At Small m) (pick b (pick w (held.At Lanes l) (held.Open l n)) held.Nothing) ≡ held.At Lanes i
+    → (a ≡ false) × (b ≡ true) × (w ≡ true) × (l ≡ i)
+at-lanes true b w m l n i e = clash (cc)
+at-lanes false true true m l n i e = (refl, refl, refl, cc)
+at-lanes false true false m l n i e = clash (cc)
+at-lanes false false w m l n i e = clash (cc)
 
-at-nothing : (a h : Bool) (m l : ℕ) → pick a (held.At Small m) (pick h (held.At Lanes l) held.Nothing) ≡ held.Nothing → (a ≡ false) × (h ≡ false)
-at-nothing true h m l e = clash (cc)
-at-nothing false true m l e = clash (cc)
-at-nothing false false m l e = (refl, refl)
+at-open : (a b w : Bool) (m l n i x : ℕ) → pick a (held.At Small m) (pick b (pick w (held.At Lanes l) (held.Open l n)) held.Nothing) ≡ held.Open i x
+    → (a ≡ false) × (b ≡ true) × (w ≡ false) × (l ≡ i) × (n ≡ x)
+at-open true b w m l n i x e = clash (cc)
+at-open false true true m l n i x e = clash (cc)
+at-open false true false m l n i x e = (refl, refl, refl, cc, cc)
+at-open false false w m l n i x e = clash (cc)
 
--- two tests that both hold
-both : (a b : Bool) → pick a b false ≡ true → (a ≡ true) × (b ≡ true)
-both true b e = (refl, e)
-both false b e = clash (cc)
+at-nothing : (a b w : Bool) (m l n : ℕ) → pick a (held.At Small m) (pick b (pick w (held.At Lanes l) (held.Open l n)) held.Nothing) ≡ held.Nothing
+    → (a ≡ false) × (b ≡ false)
+at-nothing true b w m l n e = clash (cc)
+at-nothing false true true m l n e = clash (cc)
+at-nothing false true false m l n e = clash (cc)
+at-nothing false false w m l n e = (refl, refl)
 
--- or neither
+-- two tests of which neither holds
 neither : (a b : Bool) → pick a true b ≡ false → (a ≡ false) × (b ≡ false)
 neither true b e = clash (cc)
 neither false b e = (refl, e)
 
 module _ (s : ReceiveChannelReliable) (id : ℕ) where
   in-small : (i : ℕ) → heldIn s id ≡ held.At Small i → (inCell s id ≡ true) × (cellOf s id ≡ i)
-  unfolding heldIn
-  in-small i e = at-small (inCell s id) (isHeld s id) (cellOf s id) (laneOf s id) i e
+  unfolding heldBy
+  in-small i e = at-small (inCell s id) (inLane s id) (getD (s .whole) (laneOf s id) false) (cellOf s id) (laneOf s id) (getD (s .«lane_lens») (laneOf s id) 0) i e
 
-  in-lanes : (l : ℕ) → heldIn s id ≡ held.At Lanes l → (inCell s id ≡ false) × (isHeld s id ≡ true) × (laneOf s id ≡ l)
-  unfolding heldIn
-  in-lanes l e = at-lanes (inCell s id) (isHeld s id) (cellOf s id) (laneOf s id) l e
+  in-lanes : (l : ℕ) → heldIn s id ≡ held.At Lanes l → (inCell s id ≡ false) × (inLane s id ≡ true) × (getD (s .whole) (laneOf s id) false ≡ true) × (laneOf s id ≡ l)
+  unfolding heldBy
+  in-lanes l e = at-lanes (inCell s id) (inLane s id) (getD (s .whole) (laneOf s id) false) (cellOf s id) (laneOf s id) (getD (s .«lane_lens») (laneOf s id) 0) l e
 
-  in-neither : heldIn s id ≡ held.Nothing → (inCell s id ≡ false) × (isHeld s id ≡ false)
-  unfolding heldIn
-  in-neither e = at-nothing (inCell s id) (isHeld s id) (cellOf s id) (laneOf s id) e
+  pub in-open : (l n : ℕ) → heldIn s id ≡ held.Open l n
+      → (inCell s id ≡ false) × (inLane s id ≡ true) × (getD (s .whole) (laneOf s id) false ≡ false) × (laneOf s id ≡ l) × (getD (s .«lane_lens») (laneOf s id) 0 ≡ n)
+  unfolding heldBy
+  in-open l n e = at-open (inCell s id) (inLane s id) (getD (s .whole) (laneOf s id) false) (cellOf s id) (laneOf s id) (getD (s .«lane_lens») (laneOf s id) 0) l n e
 
-  -- so it is ignored
+  in-neither : heldIn s id ≡ held.Nothing → (inCell s id ≡ false) × (inLane s id ≡ false)
+  unfolding heldBy
+  in-neither e = at-nothing (inCell s id) (inLane s id) (getD (s .whole) (laneOf s id) false) (cellOf s id) (laneOf s id) (getD (s .«lane_lens») (laneOf s id) 0) e
+
+  -- so a whole one is ignored
   pub held-ignored : (store : Store) (i : ℕ) → heldIn s id ≡ held.At store i → isHeld s id ≡ true
   held-ignored Small i e = rw (in-small i e .0)
-  held-ignored Lanes l e = in-lanes l e .1
+  held-ignored Lanes l e = let t = in-lanes l e in rw (t .0, t .1, t .2)
 
-  pub nothing-held : heldIn s id ≡ held.Nothing → isHeld s id ≡ false
-  nothing-held e = in-neither e .1
+  -- and one that is open or not here is not
+  pub absent : (h : Held) → heldIn s id ≡ h → OneOf (1 ∷ 2 ∷ []) (tagOf Held′.the-type h) → (inCell s id ≡ false) × (isHeld s id ≡ false)
+  absent (held.At store i) e k = ⊎-elim (λ z. absurd (omega arith)) (λ z. absurd (omega arith)) k
+  absent (held.Open l n) e k = let t = in-open l n e in (t .0, rw (t .0, t .1, t .2))
+  absent held.Nothing e k = let t = in-neither e in (t .0, rw (t .0, t .1))
+
+  -- one that is neither whole nor open has no lane
+  pub no-lane-here : isHeld s id ≡ false → (h : Held) → heldIn s id ≡ h → OneOf (0 ∷ 2 ∷ []) (tagOf Held′.the-type h) → inLane s id ≡ false
+  no-lane-here f (held.At store i) e k = let t = held-ignored store i e in clash (cc)
+  no-lane-here f (held.Open l n) e k = ⊎-elim (λ z. absurd (omega arith)) (λ z. absurd (omega arith)) k
+  no-lane-here f held.Nothing e k = in-neither e .1
 
   module _ (v : Valid s) where
     -- the cell of a held small message
@@ -95,11 +121,19 @@ module _ (s : ReceiveChannelReliable) (id : ℕ) where
     pub lane-held : (l : ℕ) → heldIn s id ≡ held.At Lanes l → (l < s .settings .lanes) × (id < LIMIT) × (getD (s .whole) l false ≡ true)
     lane-held l e =
         let t = in-lanes l e in
-        let b = both (inLane s id) (getD (s .whole) (laneOf s id) false) (rw (t .0) at (t .1)) in
-        let low : l < LANES = rw (← t .2) (ltb-true (laneOf s id) LANES (b .0)) in
-        let here : Here (s .lanes) (s .«lane_ids») id l = rw (← t .2) (lane-here (b .0)) in
+        let low : l < LANES = rw (← t .3) (ltb-true (laneOf s id) LANES (t .1)) in
+        let here : Here (s .lanes) (s .«lane_ids») id l = rw (← t .3) (lane-here (t .1)) in
         let g = v .lane l low in
-        (g .within (here .held), rw (here .named) at (g .id-below), rw (← t .2) (b .1))
+        (g .within (here .held), rw (here .named) at (g .id-below), rw (← t .3) (t .2))
+
+    -- of one that is open in lane l: its charge tells its pieces
+    pub open-held : (l n : ℕ) → heldIn s id ≡ held.Open l n → (inLane s id ≡ true) × (laneOf s id ≡ l) × (n ≡ SLICE_SIZE * constructorAt s l .«num_slices»)
+    open-held l n e =
+        let t = in-open l n e in
+        let low : l < LANES = rw (← t .3) (ltb-true (laneOf s id) LANES (t .1)) in
+        let here : Here (s .lanes) (s .«lane_ids») id l = rw (← t .3) (lane-here (t .1)) in
+        let charge : getD (s .«lane_lens») l 0 ≡ n = rw (← t .3) (t .4) in
+        (t .1, t .3, sym charge ∙ v .lane l low .opened (here .held) (rw (← t .3) (t .2)) .3)
 
 -- ---- a look and a take go by it
 
@@ -109,13 +143,14 @@ storeLen Small small lane = small
 storeLen Lanes small lane = lane
 
 module _ (s : ReceiveChannelReliable) where
-  pub waiting-nothing : heldIn s (s .«oldest_pending_message_id») ≡ held.Nothing → waiting s ≡ none-waiting
-  unfolding waiting
-  waiting-nothing e = let t = in-neither s (s .«oldest_pending_message_id») e in rw (t .1, t .0)
+  module _ (h : Held) (e : heldIn s (s .«oldest_pending_message_id») ≡ h) (k : OneOf (1 ∷ 2 ∷ []) (tagOf Held′.the-type h)) where
+    pub waiting-nothing : waiting s ≡ none-waiting
+    unfolding waiting
+    waiting-nothing = let t = absent s (s .«oldest_pending_message_id») h e k in rw (t .1, t .0)
 
-  pub take-nothing : heldIn s (s .«oldest_pending_message_id») ≡ held.Nothing → afterTake s ≡ s
-  unfolding afterTake
-  take-nothing e = let t = in-neither s (s .«oldest_pending_message_id») e in rw (t .1, t .0)
+    pub take-nothing : afterTake s ≡ s
+    unfolding afterTake
+    take-nothing = let t = absent s (s .«oldest_pending_message_id») h e k in rw (t .1, t .0)
 
   pub take-small : (i : ℕ) → heldIn s (s .«oldest_pending_message_id») ≡ held.At Small i → afterTake s ≡ withoutCell s i
   unfolding afterTake
@@ -123,12 +158,12 @@ module _ (s : ReceiveChannelReliable) where
 
   pub take-lanes : (l : ℕ) → heldIn s (s .«oldest_pending_message_id») ≡ held.At Lanes l → afterTake s ≡ withoutLane s l
   unfolding afterTake
-  take-lanes l e = let t = in-lanes s (s .«oldest_pending_message_id») l e in rw (t .1, t .0, t .2)
+  take-lanes l e = let t = in-lanes s (s .«oldest_pending_message_id») l e in rw (held-ignored s (s .«oldest_pending_message_id») Lanes l e, t .0, t .3)
 
   pub waiting-shown : (store : Store) (i : ℕ) → heldIn s (s .«oldest_pending_message_id») ≡ held.At store i → waiting s ≡ shownAt s store i
   unfolding waiting
   waiting-shown Small i e = let t = in-small s (s .«oldest_pending_message_id») i e in rw (t .0, t .1)
-  waiting-shown Lanes l e = let t = in-lanes s (s .«oldest_pending_message_id») l e in rw (t .1, t .0, t .2)
+  waiting-shown Lanes l e = let t = in-lanes s (s .«oldest_pending_message_id») l e in rw (held-ignored s (s .«oldest_pending_message_id») Lanes l e, t .0, t .3)
 
   module _ (small lane : ℕ) where
     pub look-refused : storesHold (s .settings) small lane ≡ false → refusing 10 ≡ lookAt s small lane
@@ -145,7 +180,8 @@ module _ (s : ReceiveChannelReliable) where
 
     module _ (v : Valid s) (id place len : ℕ) (small-room : smallLen (s .settings) ≤ small) (lane-room : lanesLen (s .settings) ≤ lane) where
       held-within : (h : Held) → heldIn s (s .«oldest_pending_message_id») ≡ h → (store : Store) → waiting s ≡ message id store place len → place + len ≤ storeLen store small lane
-      held-within held.Nothing e store w = let n = waiting-nothing e in clash (cc)
+      held-within held.Nothing e store w = let n = waiting-nothing held.Nothing e (inr refl) in clash (cc)
+      held-within (held.Open l m) e store w = let n = waiting-nothing (held.Open l m) e (inl refl) in clash (cc)
       held-within (held.At Small i) e Lanes w = let n = waiting-shown Small i e in clash (cc)
       held-within (held.At Lanes l) e Small w = let n = waiting-shown Lanes l e in clash (cc)
       held-within (held.At Small i) e Small w =

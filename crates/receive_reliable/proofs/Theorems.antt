@@ -1,21 +1,21 @@
 -- What follows from the promises: what the usage is, that a look and a take agree, that a refusal changes nothing, and that each call
 -- has one outcome only. Assumes nothing.
-use Prim.Native.Nat.{ℕ, zero, suc, _+_, _≤_, _<_, zero-le, suc-le-suc}
+use Prim.Native.Nat.{ℕ, _+_, _≤_, _<_}
 use mathlib.Core.Path.{_≡_, refl, sym, ap, _∙_}
 use mathlib.Core.Bool.{Bool, true, false}
-use mathlib.Core.List.{List, [], _∷_}
+use mathlib.Core.List.{List}
 use lib.ListN.{length, getD}
 use Rattle.words.specs.Sizes.{SLOTS, LANES}
 use Rattle.words.specs.Choice.{pick}
-use Rattle.words.specs.Lists.{total}
+use Rattle.words.specs.Lists.{sumBelow}
 use Rattle.words.proofs.Unique.{told-apart, refusalOf, refusal-undone}
 use Rattle.channel.specs.Settings.{storesHold}
 use Rattle.channel.specs.declared.Settings.{Settings}
 use Rattle.channel.specs.declared.Setup.{Setup}
 use Rattle.channel.proofs.Unique.{one-setup}
-use Rattle.words.proofs.Tables.{by-test}
+use Rattle.words.proofs.Tables.{by-test, clash, total-below}
 use Rattle.receive_reliable.specs.Receive.{inCell, isHeld, Outcome, taken, ignored, refused, arrivalOf, MessageSpot, cell, nowhere, messageSpot, messageAnswer, messageState, messageBytes, SliceSpot, opened, fresh, nothing, sliceSpot, sliceAnswer, sliceState, sliceBytes, Waiting, message, none-waiting, refusing, waiting, lookOf, lookAt, partAt, afterTake, MadeGives, MessageGives, SliceGives, TakeGives, Valid}
-use Rattle.receive_reliable.specs.Usage.{cellUse, laneUse, sumBelow}
+use Rattle.receive_reliable.specs.Usage.{cellUse, laneUse}
 use Rattle.receive_reliable.specs.declared.ReceiveChannelReliable.{ReceiveChannelReliable}
 use Rattle.receive_reliable.specs.declared.Made.{Made}
 use Rattle.receive_reliable.specs.declared.Arrival.{Arrival}
@@ -25,19 +25,8 @@ use Rattle.receive_reliable.specs.declared.Store.{Store}
 use Rattle.receive_reliable.specs.declared.Look.{Look}
 use Rattle.receive_reliable.specs.declared.Look.the-variants as look
 use Rattle.receive_reliable.specs.declared.Received.{Received}
-use Rattle.words.proofs.Tables.{clash}
 
 -- ---- the usage
-
-sum-same : (n : ℕ) (f g : ℕ → ℕ) → ((i : ℕ) → i < n → f i ≡ g i) → sumBelow n f ≡ sumBelow n g
-unfolding sumBelow
-sum-same zero f g e = refl
-sum-same (suc n) f g e = rw (e 0 (suc-le-suc zero-le), sum-same n (λ i. f (suc i)) (λ i. g (suc i)) (λ i h. e (suc i) (suc-le-suc h)))
-
-sum-total : (xs : List ℕ) → total (λ n. n) xs ≡ sumBelow (length xs) (λ i. getD xs i 0)
-unfolding sumBelow total
-sum-total [] = refl
-sum-total (x ∷ xs) = ap (λ (n : ℕ). x + n) (sum-total xs)
 
 module _ (s : ReceiveChannelReliable) (v : Valid s) where
   cell-use : (i : ℕ) → i < SLOTS → getD (s .«cell_lens») i 0 ≡ cellUse s i
@@ -52,11 +41,8 @@ module _ (s : ReceiveChannelReliable) (v : Valid s) where
   -- the usage is the lengths of the whole messages held, and 1,200 × num_slices for each open lane
   pub usage-is : s .«memory_usage_bytes» ≡ sumBelow SLOTS (cellUse s) + sumBelow LANES (laneUse s)
   usage-is =
-      let a = sum-total (s .«cell_lens») in
-      let b = sum-total (s .«lane_lens») in
       v .usage
-      ∙ ap (λ (n : ℕ). n + total (λ m. m) (s .«lane_lens»)) (rw (v .cell-lens-long) at a ∙ sum-same SLOTS (λ i. getD (s .«cell_lens») i 0) (cellUse s) cell-use)
-      ∙ ap (λ (n : ℕ). sumBelow SLOTS (cellUse s) + n) (rw (v .lane-lens-long) at b ∙ sum-same LANES (λ l. getD (s .«lane_lens») l 0) (laneUse s) lane-use)
+      ∙ rw (total-below (s .«cell_lens») SLOTS (cellUse s) (v .cell-lens-long) cell-use, total-below (s .«lane_lens») LANES (laneUse s) (v .lane-lens-long) lane-use)
 
   -- and never passes the maximum
   pub usage-within : s .«memory_usage_bytes» ≤ s .settings .«max_memory_usage_bytes»

@@ -1,24 +1,23 @@
 -- Each change of a receiver keeps it valid. Assumes nothing.
-use Prim.Native.Nat.{ℕ, _+_, _*_, _≤_, _<_, zero-le}
+use Prim.Native.Nat.{ℕ, _+_, _≤_, _<_, zero-le}
 use mathlib.Core.Path.{_≡_, refl, sym, _∙_}
 use mathlib.Core.Bool.{Bool, true, false}
 use native.Mathlib.Omega.{arith}
-use borrow.Author.Tests.{eqb-false}
-use lib.ListN.{length, getD, take, length-set, getD-replicate}
-use lib.Seq.{getD-set-same, getD-set-other, length-take-le}
+use lib.ListN.{getD, length-set, getD-replicate}
+use lib.Seq.{getD-set-same, getD-set-other}
 use Rattle.words.specs.Sizes.{SLICE_SIZE, SLOTS, LANES, LIMIT}
 use Rattle.words.specs.Lists.{total}
-use Rattle.words.proofs.Lists.{holds-le}
 use Rattle.channel.specs.Settings.{Good}
 use Rattle.channel.specs.declared.Settings.{Settings}
 use Rattle.slice_constructor.specs.declared.SliceConstructor.{SliceConstructor}
 use Rattle.slice_constructor.specs.Collect as c
-use Rattle.words.proofs.Tables.{pick-cases, holds-split}
 use Rattle.slice_constructor.proofs.Valid as cv
+use Rattle.slice_constructor.proofs.Part.{still-open}
+pub use Rattle.slice_constructor.proofs.Part.{charge-most}
 use Rattle.receive_reliable.specs.Receive.{newOf, constructorAt, isWhole, laneCharge, kept, withMessage, withLane, withoutCell, withoutLane, CellGood, LaneGood, Valid}
 use Rattle.receive_reliable.specs.Steps.{Fits}
 use Rattle.receive_reliable.specs.declared.ReceiveChannelReliable.{ReceiveChannelReliable}
-use Rattle.words.proofs.Tables.{clash, by-place, total-set, at-most-total}
+use Rattle.words.proofs.Tables.{pick-cases, clash, by-place, total-set, at-most-total}
 
 -- true is not false
 never : {P : Type 0} (b : Bool) → b ≡ true → b ≡ false → P
@@ -168,23 +167,6 @@ module _ (s : ReceiveChannelReliable) (v : Valid s) where
       }
 
 -- ---- a lane with a piece more, and one fewer
-
--- as many pieces are here as the message has, at most
-pub received-most : (k : SliceConstructor) → c.Valid k → k .«num_received_slices» ≤ k .«num_slices»
-received-most k v =
-    let n : ℕ = k .«num_slices» in
-    let e : length (take n (k .received)) ≡ n = length-take-le n (k .received) (omega (arith, v .num-most, v .received-long)) in
-    omega (arith, holds-split n (k .received), holds-le (take n (k .received)), v .counted, v .none-past)
-
-still-open : (k : SliceConstructor) → c.Valid k → isWhole k ≡ false → k .«num_received_slices» < k .«num_slices»
-still-open k v e =
-    let other : k .«num_received_slices» ≡ k .«num_slices» → ⊥ = eqb-false _ _ e in
-    omega (arith, received-most k v, other)
-
--- the exact length is no more than the charge
-pub charge-most : (k : SliceConstructor) → c.Valid k → 1 ≤ k .«num_slices» → laneCharge k ≤ SLICE_SIZE * k .«num_slices»
-charge-most k v one =
-    pick-cases (λ n. n ≤ SLICE_SIZE * k .«num_slices») (isWhole k) (λ _. omega (arith, v .last-most)) (λ _. omega arith)
 
 module _ (s : ReceiveChannelReliable) (v : Valid s) (l : ℕ) where
   -- what a lane is charged is part of the usage

@@ -15,6 +15,7 @@ use Rattle.channel.specs.Find.{heldAt}
 use Rattle.channel.specs.declared.Settings.{Settings}
 use Rattle.slice_constructor.specs.declared.SliceConstructor.{SliceConstructor}
 use Rattle.slice_constructor.specs.Collect as c
+pub use Rattle.slice_constructor.specs.Collect.{isWhole, laneCharge, kept}
 use Rattle.receive_reliable.specs.declared.ReceiveChannelReliable.{ReceiveChannelReliable}
 use Rattle.receive_reliable.specs.declared.Made.{Made}
 use Rattle.receive_reliable.specs.declared.Arrival.{Arrival}
@@ -187,17 +188,8 @@ sliceSpot s id num i n small lane =
     (judged (countRefusal s num) (λ e. nothing (refused e))
     (pick (inLane s id) (openSpot s (laneOf s id) num i n) (freshSpot s id num i n))))
 
--- lane l afterwards, with the constructor k: whole and as long as it is, or open and charged
-abbrev pub isWhole : SliceConstructor → Bool
-isWhole k = eqb (k .«num_received_slices») (k .«num_slices»)
-
-abbrev pub laneCharge : SliceConstructor → ℕ
-laneCharge k = pick (isWhole k) (c.wholeLen k) (SLICE_SIZE * k .«num_slices»)
-
-abbrev pub kept : SliceConstructor → SliceConstructor
-kept k = pick (isWhole k) (c.blankOf 0 0) k
-
--- when complete the charge becomes the exact length
+-- lane l afterwards, with the constructor k: whole and as long as it is, or open and charged; when complete the charge becomes the
+-- exact length
 unfoldable pub withLane : ReceiveChannelReliable → ℕ → ℕ → SliceConstructor → ReceiveChannelReliable
 withLane s l id k =
     record {

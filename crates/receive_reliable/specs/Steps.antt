@@ -1,33 +1,34 @@
 -- What the private functions give. Assumes nothing.
 use Prim.Native.Nat.{ℕ, _+_, _-_, _*_, _≤_, _<_}
 use mathlib.Core.Path.{_≡_}
-use mathlib.Core.Bool.{Bool, true, false}
+use mathlib.Core.Bool.{Bool, false}
 use mathlib.Core.List.{List}
-use lib.ListN.{length, getD, set}
-use lib.Dec.{eqb}
-use Rattle.words.specs.Sizes.{SLICE_SIZE, LIMIT}
+use lib.ListN.{getD}
+use lib.Dec.{ltb, eqb}
+use Rattle.words.specs.Sizes.{SLICE_SIZE, SLOTS, LANES, LIMIT}
 use Rattle.words.specs.Choice.{pick}
-use Rattle.words.specs.Lists.{splice, lowestFree}
+use Rattle.words.specs.Lists.{lowestFree}
 use Rattle.channel.specs.Settings.{laneLen}
 use Rattle.slice_constructor.specs.declared.SliceConstructor.{SliceConstructor}
 use Rattle.slice_constructor.specs.Collect as c
-use Rattle.receive_reliable.specs.Receive.{cellOf, laneOf, inCell, inLane, isHeld, ignores, Outcome, taken, ignored, refused, arrivalOf, judged, entryRefusal, MessageSpot, cell, nowhere, SliceSpot, opened, fresh, nothing, countRefusal, freshRefusal, constructorAt, withLane, Waiting, message}
+use Rattle.receive_reliable.specs.Receive.{cellOf, laneOf, inLane, ignores, Outcome, taken, ignored, refused, arrivalOf, judged, entryRefusal, MessageSpot, cell, nowhere, SliceSpot, opened, fresh, nothing, countRefusal, freshRefusal, constructorAt, Waiting, message}
 use Rattle.receive_reliable.specs.declared.ReceiveChannelReliable.{ReceiveChannelReliable}
-use Rattle.receive_reliable.specs.declared.Arrived.{Arrived}
+use Rattle.receive_reliable.specs.declared.Arrival.{Arrival}
 use Rattle.receive_reliable.specs.declared.Store.{Store}
 use Rattle.receive_reliable.specs.declared.Store.the-variants.{Small, Lanes}
 use Rattle.receive_reliable.specs.declared.Held.{Held}
 use Rattle.receive_reliable.specs.declared.Held.the-variants as held
 use Rattle.receive_reliable.specs.declared.MessagePlace.{MessagePlace}
-use Rattle.receive_reliable.specs.declared.MessagePlace.the-variants as message-place
 use Rattle.receive_reliable.specs.declared.SlicePlace.{SlicePlace}
-use Rattle.receive_reliable.specs.declared.SlicePlace.the-variants as slice-place
 
--- where a whole message with an id lies
-unfoldable pub heldIn : ReceiveChannelReliable → ℕ → Held
-heldIn s id =
-    pick (inCell s id) (held.At Small (cellOf s id))
-    (pick (isHeld s id) (held.At Lanes (laneOf s id)) held.Nothing)
+-- where a message is, by its cell and its lane, which are past the tables where it has none
+unfoldable pub heldBy : ℕ → ℕ → List Bool → List ℕ → Held
+heldBy i l wholes lens =
+    pick (ltb i SLOTS) (held.At Small i)
+    (pick (ltb l LANES) (pick (getD wholes l false) (held.At Lanes l) (held.Open l (getD lens l 0))) held.Nothing)
+
+abbrev pub heldIn : ReceiveChannelReliable → ℕ → Held
+heldIn s id = heldBy (cellOf s id) (laneOf s id) (s .whole) (s .«lane_lens»)
 
 -- the one in a cell or lane, as a look shows it
 abbrev pub shownAt : ReceiveChannelReliable → Store → ℕ → Waiting
@@ -38,14 +39,24 @@ shownAt s Lanes l = message (s .«oldest_pending_message_id») Lanes (l * laneLe
 unfoldable pub entryOf : ReceiveChannelReliable → ℕ → ℕ → ℕ → Outcome
 entryOf s id small lane = judged (entryRefusal s id small lane) refused (pick (ignores s id) ignored taken)
 
+-- on to `a` where what arrives may be taken, else told as f says
+abbrev pub told : {A : Type 0} → (Outcome → A) → A → Outcome → A
+told f a taken = a
+told f a ignored = f ignored
+told f a (refused e) = f (refused e)
+
 abbrev pub messagePlaceOf : MessagePlace → MessageSpot
-messagePlaceOf (message-place.Cell i) = cell i
-messagePlaceOf (message-place.Nowhere a) = nowhere (arrivalOf a)
+messagePlaceOf p = told nowhere (cell (p .cell)) (arrivalOf (p .answer))
 
 abbrev pub slicePlaceOf : SlicePlace → SliceSpot
-slicePlaceOf (slice-place.Opened l) = opened l
-slicePlaceOf (slice-place.Fresh l) = fresh l
-slicePlaceOf (slice-place.Nowhere a) = nothing (arrivalOf a)
+slicePlaceOf p = told nothing (pick (p .fresh) (fresh (p .lane)) (opened (p .lane))) (arrivalOf (p .answer))
+
+-- no place
+abbrev pub noCell : Arrival → MessagePlace
+noCell a = record { answer = a; cell = 0 }
+
+abbrev pub noLane : Arrival → SlicePlace
+noLane a = record { answer = a; lane = 0; fresh = false }
 
 -- the lane for a piece, before its index and size are judged
 unfoldable pub openLane : ReceiveChannelReliable → ℕ → ℕ → SliceSpot
@@ -61,23 +72,6 @@ laneSpot s id num small lane =
     (judged (countRefusal s num) (λ e. nothing (refused e))
     (pick (inLane s id) (openLane s (laneOf s id) num) (freshLane s num))))
 
--- lane l anew: its message, whether it is whole, how long it is and what puts it together
-unfoldable pub laneSet : ReceiveChannelReliable → ℕ → ℕ → Bool → ℕ → SliceConstructor → ReceiveChannelReliable
-laneSet s l id w n k =
-    record {
-      settings = s .settings;
-      «oldest_pending_message_id» = s .«oldest_pending_message_id»;
-      «memory_usage_bytes» = s .«memory_usage_bytes» - getD (s .«lane_lens») l 0 + n;
-      cells = s .cells;
-      «cell_ids» = s .«cell_ids»;
-      «cell_lens» = s .«cell_lens»;
-      lanes = set (s .lanes) l true;
-      whole = set (s .whole) l w;
-      «lane_ids» = set (s .«lane_ids») l id;
-      «lane_lens» = set (s .«lane_lens») l n;
-      constructors = set (s .constructors) l k;
-    }
-
 -- k may go on in lane l, for message id
 pub record Fits (s : ReceiveChannelReliable) (l id : ℕ) (k : SliceConstructor) : Type 0 where
   pub low : l < s .settings .lanes
@@ -91,9 +85,3 @@ pub record Fits (s : ReceiveChannelReliable) (l id : ℕ) (k : SliceConstructor)
 -- the refusal of piece i of n bytes, with the lane's own part of the store lent whole
 abbrev pub pieceRefusal : ReceiveChannelReliable → SliceConstructor → ℕ → ℕ → ℕ
 pieceRefusal s k i n = c.collectRefusal k i n (laneLen (s .settings))
-
--- a piece given to k in lane l
-pub record LaneGives (s : ReceiveChannelReliable) (l id : ℕ) (k : SliceConstructor) (i : ℕ) (bs lane lane' : List ℕ) (r : Arrived) : Type 0 where
-  pub answer : arrivalOf (r .answer) ≡ judged (pieceRefusal s k i (length bs)) refused taken
-  pub state : r .state ≡ judged (pieceRefusal s k i (length bs)) (λ e. s) (withLane s l id (c.taken k i (length bs)))
-  pub bytes : lane' ≡ judged (pieceRefusal s k i (length bs)) (λ e. lane) (pick (getD (k .received) i false) lane (splice (l * laneLen (s .settings) + i * SLICE_SIZE) bs lane))

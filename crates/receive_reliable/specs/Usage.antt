@@ -1,5 +1,5 @@
 -- What the held messages and the open lanes take, one by one. Assumes nothing.
-use Prim.Native.Nat.{ℕ, zero, suc, _+_, _*_}
+use Prim.Native.Nat.{ℕ, _*_}
 use mathlib.Core.Bool.{false}
 use lib.ListN.{getD}
 use Rattle.words.specs.Sizes.{SLICE_SIZE}
@@ -17,8 +17,3 @@ laneUse s l =
     pick (getD (s .lanes) l false)
     (pick (getD (s .whole) l false) (getD (s .«lane_lens») l 0) (SLICE_SIZE * constructorAt s l .«num_slices»))
     0
-
--- the sum over the places below n
-unfoldable pub sumBelow : ℕ → (ℕ → ℕ) → ℕ
-sumBelow zero f = 0
-sumBelow (suc n) f = f 0 + sumBelow n (λ i. f (suc i))

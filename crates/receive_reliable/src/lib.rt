@@ -1,12 +1,12 @@
 // The receiving end of a reliable channel, in ordered mode. Small messages are held in cells of one
 // lent store, sliced ones are put together in lanes of the other; messages come out by rising id.
 ghost use mathlib.Core.Path.{_≡_};
-ghost use Prim.Native.Nat.{_+_, _-_, _≤_, _<_};
-ghost use lib.ListN.{length, getD};
-ghost use Rattle.words.specs.Sizes.{SLOTS, LANES, LIMIT};
-ghost use Rattle.channel.specs.Settings.{lanesLen};
-ghost use Rattle.receive_reliable.specs.Receive.{Valid, newOf, MadeGives, arrivalOf, MessageGives, messageSpot, withMessage, SliceGives, lookAt, lookOf, partAt, withoutCell, withoutLane, TakeGives};
-ghost use Rattle.receive_reliable.specs.Steps.{heldIn, shownAt, entryOf, messagePlaceOf, slicePlaceOf, openLane, freshLane, laneSpot, laneSet, Fits, LaneGives};
+ghost use Prim.Native.Nat.{_≤_};
+ghost use lib.ListN.{length};
+ghost use Rattle.words.specs.Sizes.{LANES};
+ghost use Rattle.words.specs.Lists.{lowestFree};
+ghost use Rattle.receive_reliable.specs.Receive.{Valid, newOf, MadeGives, arrivalOf, MessageGives, messageSpot, SliceGives, lookAt, lookOf, partAt, TakeGives};
+ghost use Rattle.receive_reliable.specs.Steps.{heldBy, heldIn, entryOf, messagePlaceOf, slicePlaceOf, noCell, noLane, freshLane, laneSpot};
 use channel::Settings;
 use channel::Setup;
 use slice_constructor::Collect;
@@ -27,7 +27,7 @@ pub struct ReceiveChannelReliable {
     // the small messages that are held
     cells: [bool; SLOTS],
     cell_ids: [u64; SLOTS],
-    cell_lens: [usize; SLOTS],
+    cell_lens: [u16; SLOTS],
     // the sliced messages that are open or whole; a whole one's length, an open one's charge
     lanes: [bool; LANES],
     whole: [bool; LANES],
@@ -71,23 +71,24 @@ pub struct Received {
     pub state: ReceiveChannelReliable,
 }
 
-// Where a whole message is held: its store, and its cell or lane there.
+// Where a message is: whole in a cell or lane of a store, or open in a lane, with its charge.
 enum Held {
     At(Store, usize),
+    Open(usize, usize),
     Nothing,
 }
 
-// The cell that a small message goes to, or what it is told instead.
-enum MessagePlace {
-    Cell(usize),
-    Nowhere(Arrival),
+// What a small message is told, and the cell that it goes to where it is taken.
+struct MessagePlace {
+    answer: Arrival,
+    cell: usize,
 }
 
-// The lane that a piece goes to, open already or a free one, or what it is told instead.
-enum SlicePlace {
-    Opened(usize),
-    Fresh(usize),
-    Nowhere(Arrival),
+// What a piece is told, and the lane that it goes to where it is taken; whether that one is new.
+struct SlicePlace {
+    answer: Arrival,
+    lane: usize,
+    fresh: bool,
 }
 
 impl ReceiveChannelReliable {
@@ -122,7 +123,7 @@ impl ReceiveChannelReliable {
 
     // Takes a small message: its bytes go to the front of the lowest free cell.
     pub fn process_message(
-        self,
+        mut self,
         message_id: MessageId,
         message: &[u8],
         small: &mut [u8],
@@ -133,26 +134,33 @@ impl ReceiveChannelReliable {
     {
         let id = message_id.0;
         let n = message.len();
-        let place = self.message_place(id, n, small.len(), lanes.len());
-        match place {
-            MessagePlace::Nowhere(answer) => Arrived {
+        let cell = channel::find(&self.cells, &self.cell_ids, id);
+        let lane = channel::find(&self.lanes, &self.lane_ids, id);
+        let held = locate(cell, lane, &self.whole, &self.lane_lens);
+        let free = words::lowest_free(&self.cells, self.settings.slots);
+        let place = self.message_place(held, free, id, n, small.len(), lanes.len());
+        let answer = place.answer;
+        let Arrival::Taken = answer else {
+            return Arrived {
                 answer,
                 state: self,
-            },
-            MessagePlace::Cell(i) => {
-                words::write_bytes(small, i * SLICE_SIZE, message);
-                let state = self.with_message(i, id, n);
-                Arrived {
-                    answer: Arrival::Taken,
-                    state,
-                }
-            }
+            };
+        };
+        let i = place.cell;
+        words::write_bytes(small, i * SLICE_SIZE, message);
+        self.memory_usage_bytes += n;
+        self.cells[i] = true;
+        self.cell_ids[i] = id;
+        self.cell_lens[i] = n as u16;
+        Arrived {
+            answer: Arrival::Taken,
+            state: self,
         }
     }
 
     // Takes a piece of a sliced message: it goes to its message's lane, which the first one opens.
     pub fn process_slice(
-        self,
+        mut self,
         message_id: MessageId,
         slice_index: SliceIndex,
         num_slices: u64,
@@ -164,21 +172,44 @@ impl ReceiveChannelReliable {
         ensures { λ r. ⌜ SliceGives self («message_id» .0) «num_slices» («slice_index» .0) (now (payload .entry)) (now (small .entry)) (now (lanes .entry)) (now (lanes .exit)) r ⌝ }
     {
         let id = message_id.0;
-        let place = self.slice_place(id, num_slices, small.len(), lanes.len());
-        match place {
-            SlicePlace::Nowhere(answer) => Arrived {
+        let cell = channel::find(&self.cells, &self.cell_ids, id);
+        let lane = channel::find(&self.lanes, &self.lane_ids, id);
+        let held = locate(cell, lane, &self.whole, &self.lane_lens);
+        let free = words::lowest_free(&self.lanes, self.settings.lanes);
+        let place = self.slice_place(held, free, id, num_slices, small.len(), lanes.len());
+        let answer = place.answer;
+        let Arrival::Taken = answer else {
+            return Arrived {
                 answer,
                 state: self,
-            },
-            SlicePlace::Opened(l) => {
-                let constructor = self.constructors[l];
-                self.collect(l, id, constructor, slice_index, payload, lanes)
-            }
-            SlicePlace::Fresh(l) => {
-                let begun = SliceConstructor::new(message_id, num_slices);
-                let constructor = begun.state;
-                self.collect(l, id, constructor, slice_index, payload, lanes)
-            }
+            };
+        };
+        let l = place.lane;
+        let stored = self.constructors[l];
+        let constructor = stored.start(place.fresh, message_id, num_slices as usize);
+        let size = self.settings.pieces * SLICE_SIZE;
+        let start = l * size;
+        let end = start + size;
+        let collected = constructor.process_slice(slice_index, payload, &mut lanes[start..end]);
+        let answer = collected.answer;
+        if let Collect::Refused(e) = answer {
+            return Arrived {
+                answer: Arrival::Refused(e),
+                state: self,
+            };
+        }
+        let kept = collected.state.keep();
+        let charge = self.lane_lens[l];
+        self.memory_usage_bytes = self.memory_usage_bytes - charge + kept.len;
+        self.lanes[l] = true;
+        self.whole[l] = kept.whole;
+        self.lane_ids[l] = id;
+        self.lane_lens[l] = kept.len;
+        let constructor = kept.constructor;
+        self.constructors[l] = constructor;
+        Arrived {
+            answer: Arrival::Taken,
+            state: self,
         }
     }
 
@@ -190,11 +221,23 @@ impl ReceiveChannelReliable {
         let settings = self.settings;
         if settings.stores_hold(small.len(), lanes.len()) {
             let id = self.oldest_pending_message_id;
-            let held = self.held(id);
+            let cell = channel::find(&self.cells, &self.cell_ids, id);
+            let lane = channel::find(&self.lanes, &self.lane_ids, id);
+            let held = locate(cell, lane, &self.whole, &self.lane_lens);
             let Held::At(store, i) = held else {
                 return Look::Nothing;
             };
-            return self.show(store, i);
+            match store {
+                Store::Small => {
+                    let len = self.cell_lens[i] as usize;
+                    return Look::Message(MessageId(id), Store::Small, i * SLICE_SIZE, len);
+                }
+                Store::Lanes => {
+                    let len = self.lane_lens[i];
+                    let size = self.settings.pieces * SLICE_SIZE;
+                    return Look::Message(MessageId(id), Store::Lanes, i * size, len);
+                }
+            }
         }
         Look::Refused(Refusal::BadStore)
     }
@@ -215,27 +258,47 @@ impl ReceiveChannelReliable {
     }
 
     // Hands the waiting message out: its cell or lane is free again, and the next id is awaited.
-    pub fn receive_message(self) -> Received
+    pub fn receive_message(mut self) -> Received
         requires { ⌜ Valid self ⌝ }
         ensures { λ r. ⌜ TakeGives self r ⌝ }
     {
         let oldest = self.oldest_pending_message_id;
-        let held = self.held(oldest);
+        let cell = channel::find(&self.cells, &self.cell_ids, oldest);
+        let lane = channel::find(&self.lanes, &self.lane_ids, oldest);
+        let held = locate(cell, lane, &self.whole, &self.lane_lens);
         let Held::At(store, i) = held else {
             return Received {
                 answer: Look::Nothing,
                 state: self,
             };
         };
-        let answer = self.show(store, i);
+        self.oldest_pending_message_id = oldest + 1;
         match store {
             Store::Small => {
-                let state = self.without_cell(i);
-                Received { answer, state }
+                let len = self.cell_lens[i] as usize;
+                let answer = Look::Message(MessageId(oldest), Store::Small, i * SLICE_SIZE, len);
+                self.memory_usage_bytes -= len;
+                self.cells[i] = false;
+                self.cell_ids[i] = 0;
+                self.cell_lens[i] = 0;
+                return Received {
+                    answer,
+                    state: self,
+                };
             }
             Store::Lanes => {
-                let state = self.without_lane(i);
-                Received { answer, state }
+                let len = self.lane_lens[i];
+                let size = self.settings.pieces * SLICE_SIZE;
+                let answer = Look::Message(MessageId(oldest), Store::Lanes, i * size, len);
+                self.memory_usage_bytes -= len;
+                self.lanes[i] = false;
+                self.whole[i] = false;
+                self.lane_ids[i] = 0;
+                self.lane_lens[i] = 0;
+                return Received {
+                    answer,
+                    state: self,
+                };
             }
         }
     }
@@ -268,47 +331,9 @@ impl ReceiveChannelReliable {
         }
     }
 
-    // Where a whole message with an id is held.
-    fn held(self, id: u64) -> Held
-        requires { ⌜ Valid self ⌝ }
-        ensures { λ r. ⌜ r ≡ heldIn self id ⌝ }
-    {
-        let i = channel::find(&self.cells, &self.cell_ids, id);
-        if i < SLOTS {
-            return Held::At(Store::Small, i);
-        }
-        let l = channel::find(&self.lanes, &self.lane_ids, id);
-        if l < LANES {
-            let whole = self.whole[l];
-            if whole {
-                return Held::At(Store::Lanes, l);
-            }
-        }
-        Held::Nothing
-    }
-
-    // The oldest pending message, which is held there, as a look shows it.
-    fn show(self, store: Store, i: usize) -> Look
-        requires { ⌜ Valid self × (heldIn self (self .«oldest_pending_message_id») ≡ Held.At store i) ⌝ }
-        ensures { λ r. ⌜ lookOf r ≡ shownAt self store i ⌝ }
-    {
-        let id = self.oldest_pending_message_id;
-        match store {
-            Store::Small => {
-                let len = self.cell_lens[i];
-                Look::Message(MessageId(id), Store::Small, i * SLICE_SIZE, len)
-            }
-            Store::Lanes => {
-                let len = self.lane_lens[i];
-                let size = self.settings.pieces * SLICE_SIZE;
-                Look::Message(MessageId(id), Store::Lanes, i * size, len)
-            }
-        }
-    }
-
     // Judges what arrives by the stores and its id: one that is neither old nor held may be taken.
-    fn entry(self, id: u64, small: usize, lane: usize) -> Arrival
-        requires { ⌜ Valid self ⌝ }
+    fn entry(self, held: Held, id: u64, small: usize, lane: usize) -> Arrival
+        requires { ⌜ Valid self × (held ≡ heldIn self id) ⌝ }
         ensures { λ r. ⌜ arrivalOf r ≡ entryOf self id small lane ⌝ }
     {
         let settings = self.settings;
@@ -319,198 +344,140 @@ impl ReceiveChannelReliable {
             if id < self.oldest_pending_message_id {
                 return Arrival::Ignored;
             }
-            let held = self.held(id);
-            let Held::Nothing = held else {
+            if let Held::At(_, _) = held {
                 return Arrival::Ignored;
-            };
+            }
             return Arrival::Taken;
         }
         Arrival::Refused(Refusal::BadStore)
     }
 
-    // The cell for a small message of n bytes.
-    fn message_place(self, id: u64, n: usize, small: usize, lane: usize) -> MessagePlace
-        requires { ⌜ Valid self ⌝ }
+    // The cell for a small message of n bytes, where `free` is the lowest free one.
+    fn message_place(
+        self,
+        held: Held,
+        free: usize,
+        id: u64,
+        n: usize,
+        small: usize,
+        lane: usize,
+    ) -> MessagePlace
+        requires { ⌜ Valid self × (held ≡ heldIn self id) × (free ≡ lowestFree (self .cells) (self .settings .slots)) ⌝ }
         ensures { λ r. ⌜ messagePlaceOf r ≡ messageSpot self id n small lane ⌝ }
     {
-        let entry = self.entry(id, small, lane);
+        let entry = self.entry(held, id, small, lane);
         let Arrival::Taken = entry else {
-            return MessagePlace::Nowhere(entry);
+            return no_cell(entry);
         };
         if SLICE_SIZE < n {
-            return MessagePlace::Nowhere(Arrival::Refused(Refusal::TooLong));
+            return no_cell(Arrival::Refused(Refusal::TooLong));
         }
-        if channel::find(&self.lanes, &self.lane_ids, id) < LANES {
-            return MessagePlace::Nowhere(Arrival::Refused(Refusal::WrongKind));
+        if let Held::Open(_, _) = held {
+            return no_cell(Arrival::Refused(Refusal::WrongKind));
         }
         if self.settings.max_memory_usage_bytes < self.memory_usage_bytes + n {
-            return MessagePlace::Nowhere(Arrival::Refused(
-                Refusal::ReliableChannelMaxMemoryReached,
-            ));
+            return no_cell(Arrival::Refused(Refusal::ReliableChannelMaxMemoryReached));
         }
-        let slots = self.settings.slots;
-        let i = words::lowest_free(&self.cells, slots);
-        if slots <= i {
-            return MessagePlace::Nowhere(Arrival::Refused(Refusal::TableFull));
+        if self.settings.slots <= free {
+            return no_cell(Arrival::Refused(Refusal::TableFull));
         }
-        MessagePlace::Cell(i)
+        MessagePlace {
+            answer: Arrival::Taken,
+            cell: free,
+        }
     }
 
-    // The lane for a piece of a message with so many pieces.
-    fn slice_place(self, id: u64, num_slices: u64, small: usize, lane: usize) -> SlicePlace
-        requires { ⌜ Valid self ⌝ }
+    // The lane for a piece of a message with so many pieces, where `free` is the lowest free one.
+    fn slice_place(
+        self,
+        held: Held,
+        free: usize,
+        id: u64,
+        num_slices: u64,
+        small: usize,
+        lane: usize,
+    ) -> SlicePlace
+        requires { ⌜ Valid self × (held ≡ heldIn self id) × (free ≡ lowestFree (self .lanes) (self .settings .lanes)) ⌝ }
         ensures { λ r. ⌜ slicePlaceOf r ≡ laneSpot self id «num_slices» small lane ⌝ }
     {
-        let entry = self.entry(id, small, lane);
+        let entry = self.entry(held, id, small, lane);
         let Arrival::Taken = entry else {
-            return SlicePlace::Nowhere(entry);
+            return no_lane(entry);
         };
         if num_slices == 0 {
-            return SlicePlace::Nowhere(Arrival::Refused(Refusal::InvalidSliceMessage));
+            return no_lane(Arrival::Refused(Refusal::InvalidSliceMessage));
         }
         if (self.settings.pieces as u64) < num_slices {
-            return SlicePlace::Nowhere(Arrival::Refused(Refusal::TooLong));
+            return no_lane(Arrival::Refused(Refusal::TooLong));
         }
-        let l = channel::find(&self.lanes, &self.lane_ids, id);
-        if l < LANES {
-            return self.opened(l, num_slices);
+        let num = num_slices as usize;
+        if let Held::Open(l, charge) = held {
+            // an open lane's charge tells how many pieces its message has
+            if charge == SLICE_SIZE * num {
+                return SlicePlace {
+                    answer: Arrival::Taken,
+                    lane: l,
+                    fresh: false,
+                };
+            }
+            return no_lane(Arrival::Refused(Refusal::InvalidSliceMessage));
         }
-        self.fresh(num_slices as usize)
-    }
-
-    // Lane l, which is open, for a piece of a message with so many pieces.
-    fn opened(self, l: usize, num_slices: u64) -> SlicePlace
-        requires { ⌜ Valid self × (l < LANES) ⌝ }
-        ensures { λ r. ⌜ slicePlaceOf r ≡ openLane self l «num_slices» ⌝ }
-    {
-        let constructor = self.constructors[l];
-        if constructor.num_slices() as u64 == num_slices {
-            return SlicePlace::Opened(l);
-        }
-        SlicePlace::Nowhere(Arrival::Refused(Refusal::InvalidSliceMessage))
+        self.fresh(free, num)
     }
 
     // The lowest free lane, for a message with so many pieces.
-    fn fresh(self, num_slices: usize) -> SlicePlace
-        requires { ⌜ Valid self × («num_slices» ≤ self .settings .pieces) ⌝ }
+    fn fresh(self, free: usize, num_slices: usize) -> SlicePlace
+        requires { ⌜ Valid self × (free ≡ lowestFree (self .lanes) (self .settings .lanes)) × («num_slices» ≤ self .settings .pieces) ⌝ }
         ensures { λ r. ⌜ slicePlaceOf r ≡ freshLane self «num_slices» ⌝ }
     {
         if self.settings.max_memory_usage_bytes
             < self.memory_usage_bytes + SLICE_SIZE * num_slices
         {
-            return SlicePlace::Nowhere(Arrival::Refused(Refusal::ReliableChannelMaxMemoryReached));
+            return no_lane(Arrival::Refused(Refusal::ReliableChannelMaxMemoryReached));
         }
-        let lanes = self.settings.lanes;
-        let l = words::lowest_free(&self.lanes, lanes);
-        if lanes <= l {
-            return SlicePlace::Nowhere(Arrival::Refused(Refusal::TableFull));
+        if self.settings.lanes <= free {
+            return no_lane(Arrival::Refused(Refusal::TableFull));
         }
-        SlicePlace::Fresh(l)
-    }
-
-    // Gives the constructor of lane l a piece, with that lane's part of the store.
-    fn collect(
-        self,
-        l: usize,
-        id: u64,
-        constructor: SliceConstructor,
-        slice_index: SliceIndex,
-        payload: &[u8],
-        lanes: &mut [u8],
-    ) -> Arrived
-        requires { ⌜ Valid self × Fits self l id constructor × (lanesLen (self .settings) ≤ length (now lanes)) ⌝ }
-        ensures { λ r. ⌜ LaneGives self l id constructor («slice_index» .0) (now (payload .entry)) (now (lanes .entry)) (now (lanes .exit)) r ⌝ }
-    {
-        let size = self.settings.pieces * SLICE_SIZE;
-        let start = l * size;
-        let end = start + size;
-        let collected = constructor.process_slice(slice_index, payload, &mut lanes[start..end]);
-        let answer = collected.answer;
-        let kept = collected.state;
-        match answer {
-            Collect::Refused(e) => Arrived {
-                answer: Arrival::Refused(e),
-                state: self,
-            },
-            Collect::Whole(n) => {
-                let blank = SliceConstructor::blank();
-                let state = self.with_lane(l, id, true, n, blank);
-                Arrived {
-                    answer: Arrival::Taken,
-                    state,
-                }
-            }
-            Collect::More => {
-                let charge = SLICE_SIZE * kept.num_slices();
-                let state = self.with_lane(l, id, false, charge, kept);
-                Arrived {
-                    answer: Arrival::Taken,
-                    state,
-                }
-            }
+        SlicePlace {
+            answer: Arrival::Taken,
+            lane: free,
+            fresh: true,
         }
     }
+}
 
-    // With a small message of n bytes in cell i.
-    fn with_message(mut self, i: usize, id: u64, n: usize) -> ReceiveChannelReliable
-        requires { ⌜ Valid self × (i < SLOTS) × (self .«memory_usage_bytes» + n ≤ self .settings .«max_memory_usage_bytes») ⌝ }
-        ensures { λ r. ⌜ r ≡ withMessage self i id n ⌝ }
-    {
-        self.memory_usage_bytes += n;
-        self.cells[i] = true;
-        self.cell_ids[i] = id;
-        self.cell_lens[i] = n;
-        self
-    }
+// What a small message is told that goes nowhere.
+fn no_cell(answer: Arrival) -> MessagePlace
+    ensures { λ r. ⌜ r ≡ noCell answer ⌝ }
+{
+    MessagePlace { answer, cell: 0 }
+}
 
-    // Without the oldest pending message, which is in cell i.
-    fn without_cell(mut self, i: usize) -> ReceiveChannelReliable
-        requires { ⌜ Valid self × (i < SLOTS) × (self .«oldest_pending_message_id» < LIMIT) ⌝ }
-        ensures { λ r. ⌜ r ≡ withoutCell self i ⌝ }
-    {
-        let len = self.cell_lens[i];
-        self.memory_usage_bytes -= len;
-        self.oldest_pending_message_id += 1;
-        self.cells[i] = false;
-        self.cell_ids[i] = 0;
-        self.cell_lens[i] = 0;
-        self
+// What a piece is told that goes nowhere.
+fn no_lane(answer: Arrival) -> SlicePlace
+    ensures { λ r. ⌜ r ≡ noLane answer ⌝ }
+{
+    SlicePlace {
+        answer,
+        lane: 0,
+        fresh: false,
     }
+}
 
-    // Without the oldest pending message, which is in lane l.
-    fn without_lane(mut self, l: usize) -> ReceiveChannelReliable
-        requires { ⌜ Valid self × (l < LANES) × (self .«oldest_pending_message_id» < LIMIT) ⌝ }
-        ensures { λ r. ⌜ r ≡ withoutLane self l ⌝ }
-    {
-        let len = self.lane_lens[l];
-        self.memory_usage_bytes -= len;
-        self.oldest_pending_message_id += 1;
-        self.lanes[l] = false;
-        self.whole[l] = false;
-        self.lane_ids[l] = 0;
-        self.lane_lens[l] = 0;
-        self
+// Where a message is, by what the searches of the two tables found.
+fn locate<'a>(cell: usize, lane: usize, whole: &'a [bool], lane_lens: &'a [usize]) -> Held
+    requires { ⌜ (length (now whole) ≡ LANES) × (length (now «lane_lens») ≡ LANES) ⌝ }
+    ensures { λ r. ⌜ r ≡ heldBy cell lane (now (whole .entry)) (now («lane_lens» .entry)) ⌝ }
+{
+    if cell < SLOTS {
+        return Held::At(Store::Small, cell);
     }
-
-    // Lane l anew: its message, whether it is whole, how long it is, and its constructor.
-    fn with_lane(
-        mut self,
-        l: usize,
-        id: u64,
-        whole: bool,
-        len: usize,
-        constructor: SliceConstructor,
-    ) -> ReceiveChannelReliable
-        requires { ⌜ Valid self × (l < LANES) × (self .«memory_usage_bytes» - getD (self .«lane_lens») l 0 + len ≤ self .settings .«max_memory_usage_bytes») ⌝ }
-        ensures { λ r. ⌜ r ≡ laneSet self l id whole len constructor ⌝ }
-    {
-        let before = self.lane_lens[l];
-        self.memory_usage_bytes = self.memory_usage_bytes - before + len;
-        self.lanes[l] = true;
-        self.whole[l] = whole;
-        self.lane_ids[l] = id;
-        self.lane_lens[l] = len;
-        self.constructors[l] = constructor;
-        self
+    if LANES <= lane {
+        return Held::Nothing;
     }
+    let done = whole[lane];
+    if done {
+        return Held::At(Store::Lanes, lane);
+    }
+    Held::Open(lane, lane_lens[lane])
 }

@@ -1,11 +1,11 @@
 -- What the public functions give, from where a message, a piece, a walk or a look leads. Assumes nothing.
 use Prim.Native.Nat.{ℕ, _+_, _-_, _*_, _≤_, _<_}
 use mathlib.Core.Path.{_≡_, refl, sym, ap, _∙_}
-use mathlib.Core.Bool.{true, false}
+use mathlib.Core.Bool.{Bool, true, false}
 use mathlib.Core.List.{List, [], _∷_, _++_}
 use mathlib.Core.Logic.{⊎-elim}
 use native.Mathlib.Omega.{arith}
-use borrow.Author.Tests.{eqb-true, lt-ltb, le-ltb, lt-leb, ne-eqb}
+use borrow.Author.Tests.{eqb-true, lt-ltb, le-ltb}
 use lib.Dec.{eqb}
 use lib.ListN.{length, getD, take, drop}
 use types.Run.{OneOf}
@@ -16,33 +16,36 @@ use Rattle.words.specs.Lists.{splice}
 use Rattle.words.specs.Refusal.{numberOf}
 use Rattle.words.specs.declared.Refusal.{Refusal}
 use Rattle.words.specs.declared.Refusal.the-variants.{ClockBack}
-use Rattle.words.proofs.Tables.{by-test, none-held, part-size}
-use Rattle.channel.specs.Settings.{settingsRefusal, leastSettings, laneLen, lanesLen, storesHold}
+use Rattle.words.proofs.Tables.{getD-any, none-held, part-size}
+use Rattle.words.proofs.Unique.{numbered-above}
+use Rattle.channel.specs.Settings.{settingsRefusal, leastSettings, laneLen, storesHold}
 use Rattle.channel.specs.declared.Settings.{Settings}
 use Rattle.channel.specs.declared.Setup.the-variants as setup
 use Rattle.channel.proofs.Good.{good, least-good, lane-within}
-use Rattle.channel.proofs.Unique.{numbered-above}
 use Rattle.slice_constructor.specs.declared.SliceConstructor.{SliceConstructor}
-use Rattle.slice_constructor.specs.declared.Begun.{Begun}
 use Rattle.slice_constructor.specs.declared.Collected.{Collected}
-use Rattle.slice_constructor.specs.declared.Collect.{Collect}
 use Rattle.slice_constructor.specs.declared.Collect.the-variants as collect
 use Rattle.slice_constructor.specs.Collect as c
+use Rattle.slice_constructor.proofs.Collect as Collect′
 use Rattle.slice_constructor.proofs.Valid as cv
-use Rattle.receive_unreliable.specs.Receive.{newOf, MadeGives, constructorAt, Place, at-cell, at-lane, no-place, nextPlace, taken, refused, arrivalOf, cell, nowhere, messageSpot, withMessage, MessageGives, SliceSpot, opened, fresh, nothing, laneSpot, pieceRefusal, sliceSpot, judged, withOpen, withWhole, isWhole, withPiece, sliceAnswer, sliceState, sliceBytes, SliceGives, walkState, walkCount, atTime, discardAnswer, discardState, DiscardGives, Waiting, message, refusing, shownAt, lookOf, lookAt, partAt, withoutCell, withoutLane, TakeGives, Valid}
-use Rattle.receive_unreliable.specs.Steps.{Fits, LaneGives}
+use Rattle.slice_constructor.proofs.Part.{piece-refused, piece-good, taken-now, store-back}
+use Rattle.receive_unreliable.specs.Receive.{newOf, MadeGives, constructorAt, Place, at-cell, at-lane, no-place, nextPlace, Outcome, refused, arrivalOf, MessageSpot, cell, nowhere, messageSpot, withMessage, MessageGives, SliceSpot, opened, fresh, nothing, laneSpot, pieceRefusal, sliceSpot, judged, withPiece, SliceGives, walkState, walkCount, atTime, discardAnswer, discardState, DiscardGives, Waiting, message, refusing, shownAt, lookOf, lookAt, partAt, withoutCell, withoutLane, TakeGives, Valid}
+use Rattle.receive_unreliable.specs.Steps.{heldOf, told, messagePlaceOf, slicePlaceOf, Fits}
 use Rattle.receive_unreliable.specs.declared.ReceiveChannelUnreliable.{ReceiveChannelUnreliable}
 use Rattle.receive_unreliable.specs.declared.Arrival.{Arrival}
 use Rattle.receive_unreliable.specs.declared.Arrival.the-variants as arrival
-use Rattle.receive_unreliable.specs.declared.Arrived.{Arrived}
+use Rattle.receive_unreliable.proofs.Arrival as Arrival′
+use Rattle.receive_unreliable.specs.declared.MessagePlace.{MessagePlace}
+use Rattle.receive_unreliable.specs.declared.SlicePlace.{SlicePlace}
 use Rattle.receive_unreliable.specs.declared.Discard.the-variants as discard
+use Rattle.receive_unreliable.specs.declared.Store.{Store}
 use Rattle.receive_unreliable.specs.declared.Store.the-variants.{Small, Lanes}
+use Rattle.receive_unreliable.specs.declared.Held.the-variants as held
 use Rattle.receive_unreliable.specs.declared.Look.{Look}
 use Rattle.receive_unreliable.specs.declared.Look.the-variants as look
 use Rattle.receive_unreliable.proofs.Look as Look′
-use Rattle.receive_unreliable.proofs.Part.{whole-most, Told, told, kept, store-back}
 use Rattle.receive_unreliable.proofs.Valid.{new-valid, message-valid, without-cell-valid, without-lane-valid, time-valid, piece-valid}
-use Rattle.receive_unreliable.proofs.Spots.{Lies, cell-lies, lane-lies, spot-cell, constructor-here, open-fits, fresh-fits}
+use Rattle.receive_unreliable.proofs.Spots.{Lies, cell-lies, lane-lies, spot-cell, Entered, open-fits, fresh-fits}
 use Rattle.receive_unreliable.proofs.Walk.{walk-valid}
 
 -- ---- a new receiver
@@ -54,12 +57,27 @@ module _ (s : Settings) (t : ReceiveChannelUnreliable) where
   pub made-refused : (e : Refusal) → settingsRefusal s ≡ numberOf e → t ≡ newOf leastSettings → MadeGives s (record { answer = setup.Refused e; state = t })
   made-refused e h et = record { number = sym h; state = rw (h, numbered-above e) et; valid = rw et (new-valid leastSettings least-good) }
 
+-- ---- what a place says
+
+not-taken : {A : Type 0} (f : Outcome → A) (x : A) (a : Arrival) → OneOf (1 ∷ 2 ∷ []) (tagOf Arrival′.the-type a) → told f x (arrivalOf a) ≡ f (arrivalOf a)
+not-taken f x arrival.Taken k = ⊎-elim (λ e. absurd (omega arith)) (λ e. absurd (omega arith)) k
+not-taken f x arrival.Dropped k = refl
+not-taken f x (arrival.Refused e) k = refl
+
+pub cell-told : (p : MessagePlace) (spot : MessageSpot) → messagePlaceOf p ≡ spot → p .answer ≡ arrival.Taken → spot ≡ cell (p .cell)
+cell-told p spot e h = sym e ∙ ap (λ (a : Arrival). told nowhere (cell (p .cell)) (arrivalOf a)) h
+
+pub lane-told : (p : SlicePlace) (spot : SliceSpot) → slicePlaceOf p ≡ spot → p .answer ≡ arrival.Taken → spot ≡ pick (p .fresh) (fresh (p .lane)) (opened (p .lane))
+lane-told p spot e h = sym e ∙ ap (λ (a : Arrival). told nothing (pick (p .fresh) (fresh (p .lane)) (opened (p .lane))) (arrivalOf a)) h
+
 -- ---- a small message
 
 module _ (s : ReceiveChannelUnreliable) (v : Valid s) (bs small lane : List ℕ) where
-  pub message-left : (a : Arrival) → messageSpot s (length bs) (length small) (length lane) ≡ nowhere (arrivalOf a)
-      → MessageGives s bs small lane small (record { answer = a; state = s })
-  message-left a e = record { answer = rw e; state = rw e; bytes = rw e; valid = v }
+  pub message-left : (p : MessagePlace) → messagePlaceOf p ≡ messageSpot s (length bs) (length small) (length lane)
+      → OneOf (1 ∷ 2 ∷ []) (tagOf Arrival′.the-type (p .answer)) → MessageGives s bs small lane small (record { answer = p .answer; state = s })
+  message-left p e k =
+      let n = sym e ∙ not-taken nowhere (cell (p .cell)) (p .answer) k in
+      record { answer = rw n; state = rw n; bytes = rw n; valid = v }
 
   pub message-taken : (i : ℕ) (small' : List ℕ) (t : ReceiveChannelUnreliable) → messageSpot s (length bs) (length small) (length lane) ≡ cell i
       → small' ≡ splice (i * SLICE_SIZE) bs small → t ≡ withMessage s i (length bs)
@@ -87,128 +105,103 @@ fits-taken s l k t f i n e =
       not-whole = f .not-whole;
     }
 
--- lane l, m bytes of the store, is lent, and comes back as `part`
-module _ (s : ReceiveChannelUnreliable) (l : ℕ) (k : SliceConstructor) (t : ℕ) (f : Fits s l k t) (i : ℕ) (bs lane : List ℕ)
-    (room : lanesLen (s .settings) ≤ length lane) (m : ℕ) (em : m ≡ laneLen (s .settings)) (part : List ℕ) (r : Collected)
-    (g : c.CollectGives k i bs (take m (drop (l * laneLen (s .settings)) lane)) part r) where
-  -- the constructor with the piece, and the store with the part in its place
-  abbrev after : SliceConstructor
-  after = c.taken k i (length bs)
-
-  abbrev back : List ℕ
-  back = take (l * laneLen (s .settings)) lane ++ (part ++ drop m (drop (l * laneLen (s .settings)) lane))
-
-  within : l * laneLen (s .settings) + m ≤ length lane
-  within = let w = lane-within (s .settings) l (f .low) in omega arith
-
-  says : (a : Collect) → r .answer ≡ a → Told (eqb (pieceRefusal s k i (length bs)) 0) (isWhole after) (c.wholeLen after) (pieceRefusal s k i (length bs)) (c.collectOf a)
-  says a h = rw (← h, ← em) (told k i bs lane (l * laneLen (s .settings)) m within part r g)
-
-  stored : back ≡ judged (pieceRefusal s k i (length bs)) (λ e. lane) (pick (getD (k .received) i false) lane (splice (l * laneLen (s .settings) + i * SLICE_SIZE) bs lane))
-  stored =
-      store-back k i bs lane (l * laneLen (s .settings)) m within part r g
-      ∙ ap (λ (n : ℕ). judged (c.collectRefusal k i (length bs) n) (λ e. lane) (pick (getD (k .received) i false) lane (splice (l * laneLen (s .settings) + i * SLICE_SIZE) bs lane))) em
-
-  pub piece-refused : (e : Refusal) → r .answer ≡ collect.Refused e → LaneGives s l k i bs t lane back (record { answer = arrival.Refused e; state = s })
-  unfolding Told
-  piece-refused e h =
-      let w = says (collect.Refused e) h in
-      record { answer = rw (w .0) (ap refused (w .1)); state = rw (w .0); bytes = stored }
-
-  module _ (n : ℕ) (h : r .answer ≡ collect.Whole n) where
-    pub whole-room : s .«memory_usage_bytes» - getD (s .«lane_lens») l 0 + n ≤ s .settings .«max_memory_usage_bytes»
-    unfolding Told
-    whole-room =
-        let w = says (collect.Whole n) h in
-        let d = fits-taken s l k t f i (length bs) (w .0) in
-        omega (arith, d .room, w .2, whole-most after (d .valid) (d .some))
-
-    pub piece-whole : (u : ReceiveChannelUnreliable) → u ≡ withWhole s l n t → LaneGives s l k i bs t lane back (record { answer = arrival.Taken; state = u })
-    unfolding Told withPiece
-    piece-whole u eu =
-        let w = says (collect.Whole n) h in
-        record { answer = rw (w .0); state = rw (w .0, w .1) (eu ∙ rw (w .2)); bytes = stored }
-
-  module _ (h : r .answer ≡ collect.More) where
-    more-kept : r .state ≡ after
-    unfolding Told
-    more-kept = kept k i bs lane (l * laneLen (s .settings)) m within part r g (rw em (says collect.More h .0))
-
-    pub more-fits : Fits s l (r .state) t
-    unfolding Told
-    more-fits = rw more-kept (fits-taken s l k t f i (length bs) (says collect.More h .0))
-
-    pub piece-more : (u : ReceiveChannelUnreliable) → u ≡ withOpen s l (r .state) t → LaneGives s l k i bs t lane back (record { answer = arrival.Taken; state = u })
-    unfolding Told withPiece
-    piece-more u eu =
-        let w = says collect.More h in
-        record { answer = rw (w .0); state = rw (w .0, w .1) (eu ∙ rw more-kept); bytes = stored }
-
--- ---- a piece, from its lane
-
--- the constructor that the code has is the lane's, or a new one
-module _ (s : ReceiveChannelUnreliable) (v : Valid s) (id num t small lane l : ℕ) where
-  module _ (h : laneSpot s id num t small lane ≡ opened l) (d : SliceConstructor) where
-    copied : getD (s .constructors) l d ≡ constructorAt s l
-    copied = constructor-here s v l (omega (arith, open-fits s v id num t small lane l h .1 .low, v .settings .lanes-most)) d
-
-    pub copied-fits : Fits s l (getD (s .constructors) l d) t
-    copied-fits = rw copied (open-fits s v id num t small lane l h .1)
-
-  module _ (h : laneSpot s id num t small lane ≡ fresh l) (b : Begun) (n : c.BeginGives id num b) where
-    begun : b .state ≡ c.blankOf id num
-    unfolding c.beginRefusal
-    begun =
-        let d = fresh-fits s v id num t small lane l h .0 in
-        let one : 1 ≤ num = d .some in
-        let some : num ≡ 0 → ⊥ = λ z. omega arith in
-        let few : num ≤ PIECES = omega (arith, d .most, v .settings .pieces-most) in
-        rw (lt-leb _ _ (d .below), ne-eqb _ _ some, le-ltb _ _ few) at (n .state)
-
-    pub begun-fits : Fits s l (b .state) t
-    begun-fits = rw begun (fresh-fits s v id num t small lane l h .1)
-
 module _ (s : ReceiveChannelUnreliable) (v : Valid s) (id num i : ℕ) (bs : List ℕ) (t : ℕ) (small lane : List ℕ) where
-  pub slice-left : (a : Arrival) → laneSpot s id num t (length small) (length lane) ≡ nothing (arrivalOf a)
-      → SliceGives s id num i bs t small lane lane (record { answer = a; state = s })
+  pub slice-left : (p : SlicePlace) → slicePlaceOf p ≡ laneSpot s id num t (length small) (length lane)
+      → OneOf (1 ∷ 2 ∷ []) (tagOf Arrival′.the-type (p .answer)) → SliceGives s id num i bs t small lane lane (record { answer = p .answer; state = s })
   unfolding sliceSpot
-  slice-left a e = record { answer = rw e; state = rw e; bytes = rw e; valid = v }
+  slice-left p h k =
+      let e = sym h ∙ not-taken nothing (pick (p .fresh) (fresh (p .lane)) (opened (p .lane))) (p .answer) k in
+      record { answer = rw e; state = rw e; bytes = rw e; valid = v }
 
-  -- where it goes to a lane, all is by the refusal of index and size
-  settled-gives : (l : ℕ) (k : SliceConstructor) → Fits s l k t → (lane' : List ℕ) (r : Arrived) → LaneGives s l k i bs t lane lane' r
-      → (spot : SliceSpot) → sliceSpot s id num i (length bs) t (length small) (length lane) ≡ judged (pieceRefusal s k i (length bs)) (λ e. nothing (refused e)) spot
-      → sliceAnswer spot ≡ taken → sliceState s id num i (length bs) t spot ≡ withPiece s l (c.taken k i (length bs)) t
-      → sliceBytes s i bs spot lane ≡ pick (getD (k .received) i false) lane (splice (l * laneLen (s .settings) + i * SLICE_SIZE) bs lane)
-      → SliceGives s id num i bs t small lane lane' r
-  settled-gives l k f lane' r g spot e ea es eb =
-      by-test (eqb (pieceRefusal s k i (length bs)) 0)
-      (λ y.
-      let there : sliceSpot s id num i (length bs) t (length small) (length lane) ≡ spot = rw y at e in
-      let state : r .state ≡ withPiece s l (c.taken k i (length bs)) t = rw y at (g .state) in
-      record {
-        answer = rw (there, ea) (rw y at (g .answer));
-        state = rw (there, es) state;
-        bytes = rw (there, eb) (rw y at (g .bytes));
-        valid = rw state (piece-valid s v l (c.taken k i (length bs)) t (fits-taken s l k t f i (length bs) y));
-      })
-      (λ y.
-      let there : sliceSpot s id num i (length bs) t (length small) (length lane) ≡ nothing (refused (pieceRefusal s k i (length bs))) = rw y at e in
-      let state : r .state ≡ s = rw y at (g .state) in
-      record { answer = rw there (rw y at (g .answer)); state = rw there state; bytes = rw there (rw y at (g .bytes)); valid = rw state v })
+  -- lane l, which is fresh or not, and the constructor that the piece goes to
+  lane-fits : (l : ℕ) (b : Bool) → laneSpot s id num t (length small) (length lane) ≡ pick b (fresh l) (opened l)
+      → Entered s id num t (length lane) × Fits s l (c.startOf (constructorAt s l) b id num) t
+  lane-fits l true h = fresh-fits s v id num t (length small) (length lane) l h
+  lane-fits l false h = open-fits s v id num t (length small) (length lane) l h
 
-  pub slice-opened : (l : ℕ) → laneSpot s id num t (length small) (length lane) ≡ opened l → (d : SliceConstructor) (lane' : List ℕ) (r : Arrived)
-      → LaneGives s l (getD (s .constructors) l d) i bs t lane lane' r → SliceGives s id num i bs t small lane lane' r
+  lane-spot : (l : ℕ) (b : Bool) → laneSpot s id num t (length small) (length lane) ≡ pick b (fresh l) (opened l)
+      → sliceSpot s id num i (length bs) t (length small) (length lane)
+      ≡ judged (pieceRefusal s (c.startOf (constructorAt s l) b id num) i (length bs)) (λ e. nothing (refused e)) (pick b (fresh l) (opened l))
   unfolding sliceSpot
-  slice-opened l h d lane' r g =
-      settled-gives l (constructorAt s l) (open-fits s v id num t (length small) (length lane) l h .1) lane' r
-      (rw (copied s v id num t (length small) (length lane) l h d) at g) (opened l) (rw h) refl refl refl
+  lane-spot l true h = rw h
+  lane-spot l false h = rw h
 
-  pub slice-fresh : (l : ℕ) → laneSpot s id num t (length small) (length lane) ≡ fresh l → (b : Begun) → c.BeginGives id num b → (lane' : List ℕ) (r : Arrived)
-      → LaneGives s l (b .state) i bs t lane lane' r → SliceGives s id num i bs t small lane lane' r
-  unfolding sliceSpot c.blankOf
-  slice-fresh l h b n lane' r g =
-      settled-gives l (c.blankOf id num) (fresh-fits s v id num t (length small) (length lane) l h .1) lane' r
-      (rw (begun s v id num t (length small) (length lane) l h b n) at g) (fresh l) (rw h) refl refl (rw (none-held PIECES i))
+  -- a good piece in it
+  good-in-lane : (l : ℕ) (b : Bool) (k : SliceConstructor) → k ≡ c.startOf (constructorAt s l) b id num
+      → sliceSpot s id num i (length bs) t (length small) (length lane) ≡ pick b (fresh l) (opened l) → (u : ReceiveChannelUnreliable) → Valid u
+      → u ≡ withPiece s l (c.taken k i (length bs)) t → (lane' : List ℕ)
+      → lane' ≡ pick (getD (k .received) i false) lane (splice (l * laneLen (s .settings) + i * SLICE_SIZE) bs lane)
+      → SliceGives s id num i bs t small lane lane' (record { answer = arrival.Taken; state = u })
+  unfolding c.blankOf
+  good-in-lane l true k ek e u w eu lane' eb = record { answer = rw e; state = rw e (rw ek at eu); bytes = rw e (rw (ek, none-held PIECES i) at eb); valid = w }
+  good-in-lane l false k ek e u w eu lane' eb = record { answer = rw e; state = rw e (rw ek at eu); bytes = rw e (rw ek at eb); valid = w }
+
+-- the piece goes to lane l, which is fresh or not
+pub record InLane (s : ReceiveChannelUnreliable) (id num i : ℕ) (bs : List ℕ) (t : ℕ) (small lane : List ℕ) (l : ℕ) (b : Bool) : Type 0 where
+  pub valid : Valid s
+  pub spot : laneSpot s id num t (length small) (length lane) ≡ pick b (fresh l) (opened l)
+
+module _ {s : ReceiveChannelUnreliable} {id num i : ℕ} {bs : List ℕ} {t : ℕ} {small lane : List ℕ} {l : ℕ} {b : Bool} (x : InLane s id num i bs t small lane l b) where
+  fits : Entered s id num t (length lane) × Fits s l (c.startOf (constructorAt s l) b id num) t
+  fits = lane-fits s (x .valid) id num i bs t small lane l b (x .spot)
+
+  pub lane-inside : l < s .settings .lanes
+  lane-inside = fits .1 .low
+
+  pub lane-low : l < LANES
+  lane-low = omega (arith, lane-inside, x .valid .settings .lanes-most)
+
+  -- the lane's part of the store
+  pub within : l * laneLen (s .settings) + laneLen (s .settings) ≤ length lane
+  within = omega (arith, lane-within (s .settings) l lane-inside, fits .0 .lane-room)
+
+  -- the constructor that the code has, from what is stored there
+  module _ (d k : SliceConstructor) (ek : k ≡ c.startOf (getD (s .constructors) l d) b id num) where
+    started : k ≡ c.startOf (constructorAt s l) b id num
+    started =
+        ek ∙ ap (λ (y : SliceConstructor). c.startOf y b id num) (getD-any (s .constructors) l d (c.blankOf 0 0) (let low = lane-low in omega (arith, x .valid .constructors-long)))
+
+    pub start-fits : Fits s l k t
+    start-fits = rw started (fits .1)
+
+    -- m bytes are lent, and come back
+    module _ (m : ℕ) (em : m ≡ laneLen (s .settings)) (part : List ℕ) (r : Collected)
+        (g : c.CollectGives k i bs (take m (drop (l * laneLen (s .settings)) lane)) part r) where
+      abbrev back : List ℕ
+      back = take (l * laneLen (s .settings)) lane ++ (part ++ drop m (drop (l * laneLen (s .settings)) lane))
+
+      room : l * laneLen (s .settings) + m ≤ length lane
+      room = rw em within
+
+      told-so : c.collectRefusal k i (length bs) m ≡ pieceRefusal s k i (length bs)
+      told-so = ap (c.collectRefusal k i (length bs)) em
+
+      stored : back ≡ pick (eqb (pieceRefusal s k i (length bs)) 0) (pick (getD (k .received) i false) lane (splice (l * laneLen (s .settings) + i * SLICE_SIZE) bs lane)) lane
+      stored = rw told-so at (store-back k i bs lane (l * laneLen (s .settings)) m room part r g)
+
+      pub slice-refused : (e : Refusal) → r .answer ≡ collect.Refused e → SliceGives s id num i bs t small lane back (record { answer = arrival.Refused e; state = s })
+      slice-refused e he =
+          let w = rw told-so at (piece-refused k i bs lane (l * laneLen (s .settings)) m room part r g e he) in
+          let spot : sliceSpot s id num i (length bs) t (length small) (length lane) ≡ nothing (refused (numberOf e)) =
+          lane-spot s (x .valid) id num i bs t small lane l b (x .spot) ∙ rw (← started, w .0, w .1) in
+          record { answer = rw spot; state = rw spot; bytes = rw spot (rw (w .0) at stored); valid = x .valid }
+
+      module _ (w : OneOf (0 ∷ 1 ∷ []) (tagOf Collect′.the-type (r .answer))) where
+        fine : eqb (pieceRefusal s k i (length bs)) 0 ≡ true
+        fine = rw told-so at (piece-good k i bs lane (l * laneLen (s .settings)) m room part r g w)
+
+        now-taken : r .state ≡ c.taken k i (length bs)
+        now-taken = taken-now k i bs lane (l * laneLen (s .settings)) m room part r g (rw told-so fine)
+
+        pub taken-fits : Fits s l (r .state) t
+        taken-fits = rw now-taken (fits-taken s l k t start-fits i (length bs) fine)
+
+        pub slice-taken : (u : ReceiveChannelUnreliable) → u ≡ withPiece s l (r .state) t → SliceGives s id num i bs t small lane back (record { answer = arrival.Taken; state = u })
+        slice-taken u eu =
+            let spot : sliceSpot s id num i (length bs) t (length small) (length lane) ≡ pick b (fresh l) (opened l) =
+            lane-spot s (x .valid) id num i bs t small lane l b (x .spot) ∙ rw (← started, fine) in
+            good-in-lane s (x .valid) id num i bs t small lane l b k started spot u (rw eu (piece-valid s (x .valid) l (r .state) t taken-fits))
+            (eu ∙ ap (λ (y : SliceConstructor). withPiece s l y t) now-taken) back (rw fine at stored)
 
 -- ---- a discarding
 
@@ -237,6 +230,12 @@ module _ (s : ReceiveChannelUnreliable) where
   pub look-shows : (small lane : ℕ) → storesHold (s .settings) small lane ≡ true → (p : Place) → p ≡ nextPlace s → shownAt s p ≡ lookAt s small lane
   unfolding lookAt
   look-shows small lane h p e = rw h (ap (shownAt s) e)
+
+  -- where something is held something waits
+  pub some-waits : Valid s → (x : Store) (i : ℕ) → heldOf (held.At x i) ≡ nextPlace s → 0 < s .count
+  unfolding Lies
+  some-waits v Small i e = cell-lies s v i e .0
+  some-waits v Lanes l e = lane-lies s v l e .0
 
   pub took-nothing : Valid s → no-place ≡ nextPlace s → TakeGives s (record { answer = look.Nothing; state = s })
   took-nothing v e = record { answer = rw (← e); state = rw (← e); valid = v }

@@ -1,6 +1,5 @@
 pub mod Lists
 pub mod Queue
-pub mod Part
 pub mod Valid
 pub mod Spots
 pub mod Walk

@@ -1,5 +1,5 @@
 -- Laws of lists that know no size and no record. Assumes nothing.
-use Prim.Native.Nat.{ℕ, zero, suc, _+_, _-_, _≤_, _<_, zero-le, suc-le-suc}
+use Prim.Native.Nat.{ℕ, zero, suc, _+_, _-_, _≤_, _<_}
 use mathlib.Core.Path.{_≡_, refl, sym, ap, _∙_}
 use mathlib.Core.List.{List, [], _∷_, _++_, map}
 use mathlib.Core.Bool.{Bool, true, false}
@@ -8,12 +8,11 @@ use native.Mathlib.Numerals.{add-one}
 use native.Mathlib.Omega.{arith}
 use borrow.Author.Tests.{ltb-true, ltb-false}
 use lib.Dec.{ltb}
-use lib.ListN.{length, getD, take, drop, set, replicate, length-set, length-drop, length-append}
+use lib.ListN.{length, getD, take, drop, set, length-set, length-drop, length-append}
 use lib.Seq.{ext-getD, getD-set-same, getD-set-other, take-append-le, take-suc-set}
-use Rattle.words.specs.Lists.{holds, total, All}
+use Rattle.words.specs.Lists.{holds, All}
 use Rattle.words.proofs.Lists.{drop-take}
 use Rattle.words.proofs.Tables.{by-test, by-place}
-use Rattle.receive_unreliable.specs.Views.{sumBelow}
 
 -- ---- which are held, where one of them is put anew
 
@@ -96,27 +95,9 @@ module _ {A : Type 0} (z : A) where
         (λ t. let le = ltb-false k i t in m .after k le ∙ blank k (omega (arith, o)) ∙ sym (blank (suc k) (omega arith)))
         ∙ sym (moved-up q k)))
 
--- every entry of a blank list is blank
-pub blanks : {A : Type 0} (z : A) (n k : ℕ) → getD (replicate n z) k z ≡ z
-blanks z zero k = refl
-blanks z (suc n) zero = refl
-blanks z (suc n) (suc k) = blanks z n k
-
 -- ---- a list of which each element is the same under two maps
 
 pub map-same : {A B : Type 0} (f g : A → B) (xs : List A) → All (λ x. f x ≡ g x) xs → map f xs ≡ map g xs
 unfolding All
 map-same f g [] a = refl
 map-same f g (x ∷ xs) a = rw (a .0, map-same f g xs (a .1))
-
--- ---- sums
-
-pub sum-same : (n : ℕ) (f g : ℕ → ℕ) → ((i : ℕ) → i < n → f i ≡ g i) → sumBelow n f ≡ sumBelow n g
-unfolding sumBelow
-sum-same zero f g e = refl
-sum-same (suc n) f g e = rw (e 0 (suc-le-suc zero-le), sum-same n (λ i. f (suc i)) (λ i. g (suc i)) (λ i h. e (suc i) (suc-le-suc h)))
-
-pub sum-total : (xs : List ℕ) → total (λ n. n) xs ≡ sumBelow (length xs) (λ i. getD xs i 0)
-unfolding sumBelow total
-sum-total [] = refl
-sum-total (x ∷ xs) = ap (λ (n : ℕ). x + n) (sum-total xs)

@@ -1,27 +1,28 @@
 -- What the place of a message, of a piece and of the next one out say of the state. Assumes nothing.
 use Prim.Native.Nat.{ℕ, _+_, _*_, _≤_, _<_}
 use mathlib.Core.Path.{_≡_, refl, sym, ap, _∙_, subst}
-use mathlib.Core.Bool.{true, false, not}
+use mathlib.Core.Bool.{Bool, true, false, not}
 use mathlib.Core.List.{[], _∷_}
 use native.Mathlib.Omega.{arith}
-use borrow.Author.Tests.{ltb-true, ltb-false, leb-false, eqb-true, eqb-false, not-true, not-false}
+use borrow.Author.Tests.{ltb-true, ltb-false, leb-false, eqb-true, eqb-false, not-true, not-false, eq-eqb, ne-eqb}
 use lib.Dec.{ltb, leb, eqb}
 use lib.ListN.{length, getD}
 use lib.Seq.{getD-take, length-take-le}
 use Rattle.words.specs.Sizes.{SLICE_SIZE, SLOTS, LANES, LIMIT}
+use Rattle.words.specs.Choice.{pick}
 use Rattle.words.specs.Lists.{All, lowestFree}
 use Rattle.words.proofs.Lists.{hit-below, none-refused, all-at}
-use Rattle.words.proofs.Tables.{pick-cases, getD-any}
+use Rattle.words.proofs.Tables.{pick-cases, by-test, clash}
 use Rattle.channel.specs.Settings.{smallLen, lanesLen, storesHold}
 use Rattle.channel.proofs.Good.{lane-within, stores-room}
 use Rattle.channel.proofs.Held.{Here, found}
-use Rattle.slice_constructor.specs.declared.SliceConstructor.{SliceConstructor}
 use Rattle.slice_constructor.specs.Collect as c
 use Rattle.slice_constructor.proofs.Valid as cv
-use Rattle.receive_unreliable.specs.Receive.{laneOf, isOpen, constructorAt, waiters, Place, at-cell, at-lane, no-place, placeOf, nextPlace, messageRefusal, MessageSpot, cell, nowhere, messageSpot, entryRefusal, SliceSpot, opened, fresh, nothing, openLane, freshLane, laneSpot, Waiting, message, none-waiting, refusing, shownAt, lookAt, Waits, Valid}
-use Rattle.receive_unreliable.specs.Steps.{Fits}
+use Rattle.receive_unreliable.specs.Receive.{laneOf, isOpen, constructorAt, waiters, Place, at-cell, at-lane, no-place, placeOf, nextPlace, refused, messageRefusal, MessageSpot, cell, nowhere, messageSpot, entryRefusal, SliceSpot, opened, fresh, nothing, openLane, freshLane, laneSpot, Waiting, message, none-waiting, refusing, shownAt, lookAt, Waits, Valid}
+use Rattle.receive_unreliable.specs.Steps.{openedBy, openedIn, Fits}
 use Rattle.receive_unreliable.specs.declared.ReceiveChannelUnreliable.{ReceiveChannelUnreliable}
 use Rattle.receive_unreliable.specs.declared.Store.the-variants.{Small, Lanes}
+use Rattle.receive_unreliable.specs.declared.Opened.the-variants as opened-at
 use Rattle.receive_unreliable.proofs.Queue.{place-cell, place-lane, by-kind, queue-most}
 use Rattle.receive_unreliable.proofs.Valid.{CellSpot, lane-used, open-held}
 
@@ -33,6 +34,14 @@ Lies s (at-cell i) = (0 < s .count) × (getD (s .queue) 0 0 ≡ i) × (i < s .se
 Lies s (at-lane l) = (0 < s .count) × (getD (s .queue) 0 0 ≡ SLOTS + l) × (l < s .settings .lanes) × (getD (s .lanes) l false ≡ true) × (getD (s .opens) l false ≡ false)
 Lies s no-place = s .count ≡ 0
 
+-- it is one that waits
+pub first-waits : (s : ReceiveChannelUnreliable) → Valid s → (s .count ≡ 0 → ⊥) → (0 < s .count) × Waits (s .cells) (s .lanes) (s .opens) (getD (s .queue) 0 0)
+first-waits s v none =
+    let some : 0 < s .count = omega (arith, none) in
+    let most = queue-most (s .cells) (s .lanes) (s .opens) (s .count) (s .queue) (v .queue) (v .cells-long) (v .lanes-long) (v .opens-long) in
+    let in-front : 0 < length (waiters s) = rw (length-take-le (s .count) (s .queue) most) some in
+    (some, rw (getD-take (s .count) (s .queue) 0 0 some) at (all-at (Waits (s .cells) (s .lanes) (s .opens)) (waiters s) 0 0 in-front (v .queue .each)))
+
 pub lies : (s : ReceiveChannelUnreliable) → Valid s → Lies s (nextPlace s)
 unfolding nextPlace Lies
 lies s v =
@@ -40,13 +49,9 @@ lies s v =
     pick-cases (Lies s) (eqb (s .count) 0)
     (λ e. eqb-true (s .count) 0 e)
     (λ e.
-    let none : s .count ≡ 0 → ⊥ = eqb-false (s .count) 0 e in
-    let some : 0 < s .count = omega (arith, none) in
-    let most = queue-most (s .cells) (s .lanes) (s .opens) (s .count) (s .queue) (v .queue) (v .cells-long) (v .lanes-long) (v .opens-long) in
-    let in-front : 0 < length (waiters s) = rw (length-take-le (s .count) (s .queue) most) some in
-    let waits : Waits (s .cells) (s .lanes) (s .opens) first =
-    rw (getD-take (s .count) (s .queue) 0 0 some) at (all-at (Waits (s .cells) (s .lanes) (s .opens)) (waiters s) 0 0 in-front (v .queue .each)) in
-    by-kind (s .cells) (s .lanes) (s .opens) first waits
+    let w = first-waits s v (eqb-false (s .count) 0 e) in
+    let some : 0 < s .count = w .0 in
+    by-kind (s .cells) (s .lanes) (s .opens) first (w .1)
     (λ low held. subst (Lies s) (sym (place-cell first low)) (some, refl, v .cell first low .within held, held))
     (λ l d low held shut. subst (Lies s) (sym (ap placeOf d ∙ place-lane l)) (some, d, v .lane l low .within held, held, shut)))
 
@@ -144,13 +149,37 @@ entered s id num t small lane e =
       most = ltb-false _ _ (a .1 .1 .1 .1 .0);
     }
 
--- a lane's constructor, as the code reads it
-pub constructor-here : (s : ReceiveChannelUnreliable) → Valid s → (l : ℕ) → l < LANES → (d : SliceConstructor) → getD (s .constructors) l d ≡ constructorAt s l
-constructor-here s v l low d = getD-any (s .constructors) l d (c.blankOf 0 0) (omega (arith, v .constructors-long))
-
 -- the lane of an open id
 pub lane-here : (s : ReceiveChannelUnreliable) → Valid s → (id : ℕ) → laneOf s id < LANES → Here (s .opens) (s .«lane_ids») id (laneOf s id)
 lane-here s v id low = found (s .opens) (s .«lane_ids») id (v .opens-long ∙ sym (v .lane-ids-long)) (omega (arith, v .opens-long))
+
+at-open : (b : Bool) (m n l x : ℕ) → pick b (opened-at.At m n) opened-at.Nothing ≡ opened-at.At l x → (b ≡ true) × (m ≡ l) × (n ≡ x)
+at-open true m n l x e = (refl, cc, cc)
+at-open false m n l x e = clash (cc)
+
+at-none : (b : Bool) (m n : ℕ) → pick b (opened-at.At m n) opened-at.Nothing ≡ opened-at.Nothing → b ≡ false
+at-none true m n e = clash (cc)
+at-none false m n e = refl
+
+module _ (s : ReceiveChannelUnreliable) (id : ℕ) where
+  pub in-open : (l n : ℕ) → openedIn s id ≡ opened-at.At l n → (isOpen s id ≡ true) × (laneOf s id < LANES) × (laneOf s id ≡ l) × (getD (s .«lane_lens») (laneOf s id) 0 ≡ n)
+  unfolding openedBy
+  in-open l n e = let t = at-open (isOpen s id) (laneOf s id) (getD (s .«lane_lens») (laneOf s id) 0) l n e in (t .0, ltb-true _ _ (t .0), t .1, t .2)
+
+  pub in-none : openedIn s id ≡ opened-at.Nothing → isOpen s id ≡ false
+  unfolding openedBy
+  in-none e = at-none (isOpen s id) (laneOf s id) (getD (s .«lane_lens») (laneOf s id) 0) e
+
+-- its charge tells its pieces
+pub open-count : (s : ReceiveChannelUnreliable) → Valid s → (id num : ℕ) → laneOf s id < LANES
+    → pick (eqb (getD (s .«lane_lens») (laneOf s id) 0) (SLICE_SIZE * num)) (opened (laneOf s id)) (nothing (refused 8)) ≡ openLane s (laneOf s id) num
+unfolding openLane
+open-count s v id num low =
+    let l : ℕ = laneOf s id in
+    let charged : getD (s .«lane_lens») l 0 ≡ SLICE_SIZE * constructorAt s l .«num_slices» = v .lane l low .opened (lane-here s v id low .held) .charged in
+    by-test (eqb (constructorAt s l .«num_slices») num)
+    (λ e. rw (e, eq-eqb _ _ (charged ∙ ap (λ (n : ℕ). SLICE_SIZE * n) (eqb-true _ _ e))))
+    (λ e. let other : constructorAt s l .«num_slices» ≡ num → ⊥ = eqb-false _ _ e in rw (e, ne-eqb (getD (s .«lane_lens») l 0) (SLICE_SIZE * num) (λ h. other (omega arith))))
 
 unfoldable pub LaneSays : ReceiveChannelUnreliable → ℕ → ℕ → ℕ → ℕ → SliceSpot → Type 0
 LaneSays s id num t lane (opened l) = Entered s id num t lane × Fits s l (constructorAt s l) t

@@ -10,9 +10,9 @@ use lib.Dec.{ltb, eqb}
 use lib.ListN.{length, getD, take, drop}
 use Rattle.words.specs.Sizes.{SLICE_SIZE, SLOTS, LANES, PIECES, MAX_MEMORY}
 use Rattle.words.specs.Choice.{pick}
-use Rattle.words.specs.Lists.{splice, first, total}
+use Rattle.words.specs.Lists.{splice, first, sumBelow}
 use Rattle.words.proofs.Unique.{told-apart, refusalOf, refusal-undone}
-use Rattle.words.proofs.Tables.{by-test, clash, pick-cases}
+use Rattle.words.proofs.Tables.{by-test, clash, pick-cases, total-below}
 use Rattle.channel.specs.Settings.{laneLen, storesHold}
 use Rattle.channel.specs.Find.{heldAt}
 use Rattle.channel.specs.declared.Settings.{Settings}
@@ -22,7 +22,7 @@ use Rattle.slice_constructor.specs.declared.SliceConstructor.{SliceConstructor}
 use Rattle.slice_constructor.specs.Collect as c
 use Rattle.slice_constructor.proofs.Valid as cv
 use Rattle.receive_unreliable.specs.Receive.{DISCARD_AFTER, newOf, constructorAt, Place, at-cell, at-lane, no-place, nextPlace, Outcome, taken, dropped, refused, arrivalOf, MessageSpot, cell, nowhere, messageSpot, messageAnswer, messageState, messageBytes, SliceSpot, opened, fresh, nothing, laneSpot, pieceRefusal, settled, openLane, freshLane, entryRefusal, sliceSpot, withOpen, withPiece, sliceAnswer, sliceState, sliceBytes, lowestId, goesOn, withoutOpen, walkCount, atTime, Discarding, gone, kept, discardOf, discardAnswer, discardState, Waiting, message, none-waiting, refusing, shownAt, lookOf, lookAt, partAt, removed, MadeGives, MessageGives, SliceGives, DiscardGives, TakeGives, Valid}
-use Rattle.receive_unreliable.specs.Views.{cellUse, laneUse, sumBelow, messages, afterMessage, afterSlice}
+use Rattle.receive_unreliable.specs.Views.{cellUse, laneUse, messages, afterMessage, afterSlice}
 use Rattle.receive_unreliable.specs.declared.ReceiveChannelUnreliable.{ReceiveChannelUnreliable}
 use Rattle.receive_unreliable.specs.declared.Made.{Made}
 use Rattle.receive_unreliable.specs.declared.Arrival.{Arrival}
@@ -34,7 +34,6 @@ use Rattle.receive_unreliable.specs.declared.Discarded.{Discarded}
 use Rattle.receive_unreliable.specs.declared.Look.{Look}
 use Rattle.receive_unreliable.specs.declared.Look.the-variants as look
 use Rattle.receive_unreliable.specs.declared.Received.{Received}
-use Rattle.receive_unreliable.proofs.Lists.{sum-same, sum-total}
 use Rattle.receive_unreliable.proofs.Spots.{Lies, lies, spot-cell, open-fits, fresh-fits}
 use Rattle.receive_unreliable.proofs.Gives.{fits-taken}
 use Rattle.receive_unreliable.proofs.Valid.{time-valid}
@@ -56,11 +55,8 @@ module _ (s : ReceiveChannelUnreliable) (v : Valid s) where
   -- the usage is the lengths of the whole messages held, and 1,200 × num_slices for each open lane
   pub usage-is : s .«memory_usage_bytes» ≡ sumBelow SLOTS (cellUse s) + sumBelow LANES (laneUse s)
   usage-is =
-      let a = sum-total (s .«cell_lens») in
-      let b = sum-total (s .«lane_lens») in
       v .usage
-      ∙ ap (λ (n : ℕ). n + total (λ m. m) (s .«lane_lens»)) (rw (v .cell-lens-long) at a ∙ sum-same SLOTS (λ i. getD (s .«cell_lens») i 0) (cellUse s) cell-use)
-      ∙ ap (λ (n : ℕ). sumBelow SLOTS (cellUse s) + n) (rw (v .lane-lens-long) at b ∙ sum-same LANES (λ l. getD (s .«lane_lens») l 0) (laneUse s) lane-use)
+      ∙ rw (total-below (s .«cell_lens») SLOTS (cellUse s) (v .cell-lens-long) cell-use, total-below (s .«lane_lens») LANES (laneUse s) (v .lane-lens-long) lane-use)
 
   -- and never passes the maximum
   pub usage-within : s .«memory_usage_bytes» ≤ s .settings .«max_memory_usage_bytes»

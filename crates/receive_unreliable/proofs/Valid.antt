@@ -4,12 +4,11 @@ use mathlib.Core.Path.{_≡_, refl, sym, _∙_}
 use mathlib.Core.Bool.{Bool, true, false}
 use mathlib.Core.List.{List, [], _∷_, _++_}
 use native.Mathlib.Omega.{arith}
-use borrow.Author.Tests.{eqb-false}
 use lib.ListN.{getD, set, drop, length-set, getD-replicate}
 use lib.Seq.{getD-set-same, getD-set-other}
 use Rattle.words.specs.Sizes.{SLICE_SIZE, SLOTS, LANES}
 use Rattle.words.specs.Lists.{total, holds, All, Pairs}
-use Rattle.words.proofs.Tables.{clash, by-test, by-place, pick-cases, total-set, at-most-total}
+use Rattle.words.proofs.Tables.{clash, by-test, by-place, blanks, pick-cases, total-set, at-most-total}
 use Rattle.channel.specs.Settings.{Good, laneLen}
 use Rattle.channel.specs.declared.Settings.{Settings}
 use Rattle.slice_constructor.specs.declared.SliceConstructor.{SliceConstructor}
@@ -18,8 +17,7 @@ use Rattle.slice_constructor.proofs.Valid as cv
 use Rattle.receive_unreliable.specs.Receive.{ROWS, newOf, withMessage, isWhole, withOpen, withWhole, withPiece, withoutOpen, atTime, withoutCell, withoutLane, CellGood, LaneGood, QueueGood, Valid}
 use Rattle.receive_unreliable.specs.Steps.{Fits}
 use Rattle.receive_unreliable.specs.declared.ReceiveChannelUnreliable.{ReceiveChannelUnreliable}
-use Rattle.receive_unreliable.proofs.Lists.{blanks}
-use Rattle.receive_unreliable.proofs.Part.{received-most, whole-most}
+use Rattle.slice_constructor.proofs.Part.{whole-most, still-open}
 use Rattle.receive_unreliable.proofs.Queue.{queue-most, cell-room, cell-joins, cell-leaves, lane-room, lane-stays, lane-joins, lane-leaves}
 
 -- true is not false
@@ -337,15 +335,13 @@ module _ (s : ReceiveChannelUnreliable) (v : Valid s) (l : ℕ) (k : SliceConstr
   pub open-valid : isWhole k ≡ false → Valid (withOpen s l k t)
   unfolding withOpen
   open-valid e =
-      let other : k .«num_received_slices» ≡ k .«num_slices» → ⊥ = eqb-false _ _ e in
-      let more : k .«num_received_slices» < k .«num_slices» = omega (arith, received-most k (f .valid), other) in
       lane-anew-valid s v l lane-low _ t true true (k .«message_id» .0) (SLICE_SIZE * k .«num_slices») t k (s .count) (s .queue) refl (f .room) (f .later)
       record {
         within = λ _. f .low;
         long = omega (arith, f .most);
         blank = λ h. never true refl h;
         done = λ h. never true refl h;
-        opened = λ _. record { below = f .valid .id-below; named = refl; some = f .some; more = more; charged = refl; seen = omega arith };
+        opened = λ _. record { below = f .valid .id-below; named = refl; some = f .some; more = still-open k (f .valid) e; charged = refl; seen = omega arith };
         constructor = f .valid;
       }
       (stays s v l lane-low (f .not-whole) true)

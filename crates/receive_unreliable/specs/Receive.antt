@@ -15,6 +15,7 @@ use Rattle.channel.specs.Find.{heldAt}
 use Rattle.channel.specs.declared.Settings.{Settings}
 use Rattle.slice_constructor.specs.declared.SliceConstructor.{SliceConstructor}
 use Rattle.slice_constructor.specs.Collect as c
+pub use Rattle.slice_constructor.specs.Collect.{isWhole}
 use Rattle.receive_unreliable.specs.declared.ReceiveChannelUnreliable.{ReceiveChannelUnreliable}
 use Rattle.receive_unreliable.specs.declared.Made.{Made}
 use Rattle.receive_unreliable.specs.declared.Arrival.{Arrival}
@@ -257,10 +258,6 @@ withWhole s l n t =
       count = s .count + 1;
       queue = set (s .queue) (s .count) (SLOTS + l);
     }
-
--- as many pieces are here as the message has
-abbrev pub isWhole : SliceConstructor → Bool
-isWhole k = eqb (k .«num_received_slices») (k .«num_slices»)
 
 -- lane l afterwards, with the constructor k; a repeat leaves k as it was, but renews the time
 unfoldable pub withPiece : ReceiveChannelUnreliable → ℕ → SliceConstructor → ℕ → ReceiveChannelUnreliable

@@ -1,5 +1,5 @@
 -- What a receiver holds, seen from outside: what each message takes, and the waiting messages themselves. Assumes nothing.
-use Prim.Native.Nat.{ℕ, zero, suc, _+_, _*_}
+use Prim.Native.Nat.{ℕ, _*_}
 use mathlib.Core.Bool.{false}
 use mathlib.Core.List.{List, [], _∷_, _++_, map}
 use lib.ListN.{getD, take, drop}
@@ -21,11 +21,6 @@ laneUse s l =
     pick (getD (s .lanes) l false)
     (pick (getD (s .opens) l false) (SLICE_SIZE * constructorAt s l .«num_slices») (getD (s .«lane_lens») l 0))
     0
-
--- the sum over the places below n
-unfoldable pub sumBelow : ℕ → (ℕ → ℕ) → ℕ
-sumBelow zero f = 0
-sumBelow (suc n) f = f 0 + sumBelow n (λ i. f (suc i))
 
 -- the bytes of what waits as w, in the stores that are lent
 abbrev pub bytesOf : ReceiveChannelUnreliable → List ℕ → List ℕ → ℕ → List ℕ

@@ -3,12 +3,14 @@
 // became whole.
 ghost use mathlib.Core.Path.{_≡_};
 ghost use mathlib.Core.List.{[], _∷_, _++_};
-ghost use Prim.Native.Nat.{ℕ, _+_, _-_, _*_, _≤_, _<_};
+ghost use Prim.Native.Nat.{ℕ, _*_, _≤_, _<_};
+ghost use lib.Dec.{eqb};
 ghost use lib.ListN.{length, getD, drop};
-ghost use Rattle.words.specs.Sizes.{SLICE_SIZE, SLOTS, LANES, LIMIT};
-ghost use Rattle.channel.specs.Settings.{lanesLen};
-ghost use Rattle.receive_unreliable.specs.Receive.{ROWS, Valid, newOf, nextPlace, shownAt, MadeGives, messageSpot, withMessage, MessageGives, openLane, freshLane, laneSpot, withOpen, withWhole, SliceGives, lowestId, DiscardGives, lookAt, lookOf, partAt, withoutCell, withoutLane, TakeGives};
-ghost use Rattle.receive_unreliable.specs.Steps.{heldOf, messagePlaceOf, slicePlaceOf, Fits, LaneGives};
+ghost use Rattle.words.specs.Sizes.{SLICE_SIZE, LANES, PIECES, LIMIT};
+ghost use Rattle.words.specs.Choice.{pick};
+ghost use Rattle.words.specs.Lists.{lowestFree};
+ghost use Rattle.receive_unreliable.specs.Receive.{ROWS, Valid, newOf, nextPlace, MadeGives, refused, messageSpot, MessageGives, opened, nothing, freshLane, laneSpot, withPiece, SliceGives, lowestId, DiscardGives, lookAt, lookOf, partAt, TakeGives};
+ghost use Rattle.receive_unreliable.specs.Steps.{heldOf, openedBy, openedIn, messagePlaceOf, slicePlaceOf, noCell, noLane, Fits};
 use channel::Settings;
 use channel::Setup;
 use slice_constructor::Collect;
@@ -35,7 +37,7 @@ pub struct ReceiveChannelUnreliable {
     latest: u64,
     // the small messages that are held
     cells: [bool; SLOTS],
-    cell_lens: [usize; SLOTS],
+    cell_lens: [u16; SLOTS],
     // the sliced messages that are open or whole; a whole one's length, an open one's charge
     lanes: [bool; LANES],
     lane_lens: [usize; LANES],
@@ -46,7 +48,7 @@ pub struct ReceiveChannelUnreliable {
     constructors: [SliceConstructor; LANES],
     // the messages that wait, in order of completion: a cell i as i, a lane l as SLOTS + l
     count: usize,
-    queue: [usize; ROWS],
+    queue: [u8; ROWS],
 }
 
 pub struct Made {
@@ -101,17 +103,23 @@ enum Held {
     Nothing,
 }
 
-// The cell that a small message goes to, or what it is told instead.
-enum MessagePlace {
-    Cell(usize),
-    Nowhere(Arrival),
+// The lane of an open message, with its charge.
+enum Opened {
+    At(usize, usize),
+    Nothing,
 }
 
-// The lane that a piece goes to, open already or a free one, or what it is told instead.
-enum SlicePlace {
-    Opened(usize),
-    Fresh(usize),
-    Nowhere(Arrival),
+// What a small message is told, and the cell that it goes to where it is taken.
+struct MessagePlace {
+    answer: Arrival,
+    cell: usize,
+}
+
+// What a piece is told, and the lane that it goes to where it is taken; whether that one is new.
+struct SlicePlace {
+    answer: Arrival,
+    lane: usize,
+    fresh: bool,
 }
 
 impl ReceiveChannelUnreliable {
@@ -146,25 +154,31 @@ impl ReceiveChannelUnreliable {
 
     // Takes a small message: its bytes go to the front of the lowest free cell, and it waits as the
     // last of the queue.
-    pub fn process_message(self, message: &[u8], small: &mut [u8], lanes: &[u8]) -> Arrived
+    pub fn process_message(mut self, message: &[u8], small: &mut [u8], lanes: &[u8]) -> Arrived
         requires { ⌜ Valid self ⌝ }
         ensures { λ r. ⌜ MessageGives self (now (message .entry)) (now (small .entry)) (now (lanes .entry)) (now (small .exit)) r ⌝ }
     {
         let n = message.len();
-        let place = self.message_place(n, small.len(), lanes.len());
-        match place {
-            MessagePlace::Nowhere(answer) => Arrived {
+        let free = words::lowest_free(&self.cells, self.settings.slots);
+        let place = self.message_place(free, n, small.len(), lanes.len());
+        let answer = place.answer;
+        let Arrival::Taken = answer else {
+            return Arrived {
                 answer,
                 state: self,
-            },
-            MessagePlace::Cell(i) => {
-                words::write_bytes(small, i * SLICE_SIZE, message);
-                let state = self.with_message(i, n);
-                Arrived {
-                    answer: Arrival::Taken,
-                    state,
-                }
-            }
+            };
+        };
+        let i = place.cell;
+        words::write_bytes(small, i * SLICE_SIZE, message);
+        let last = self.count;
+        self.memory_usage_bytes += n;
+        self.cells[i] = true;
+        self.cell_lens[i] = n as u16;
+        self.queue[last] = i as u8;
+        self.count = last + 1;
+        Arrived {
+            answer: Arrival::Taken,
+            state: self,
         }
     }
 
@@ -183,27 +197,43 @@ impl ReceiveChannelUnreliable {
         requires { ⌜ Valid self ⌝ }
         ensures { λ r. ⌜ SliceGives self («message_id» .0) «num_slices» («slice_index» .0) (now (payload .entry)) «current_time» (now (small .entry)) (now (lanes .entry)) (now (lanes .exit)) r ⌝ }
     {
+        let id = message_id.0;
+        let opened = locate(&self.opens, &self.lane_ids, &self.lane_lens, id);
+        let free = words::lowest_free(&self.lanes, self.settings.lanes);
         let place = self.slice_place(
-            message_id.0,
+            opened,
+            free,
+            id,
             num_slices,
             current_time,
             small.len(),
             lanes.len(),
         );
-        match place {
-            SlicePlace::Nowhere(answer) => Arrived {
+        let answer = place.answer;
+        let Arrival::Taken = answer else {
+            return Arrived {
                 answer,
                 state: self,
-            },
-            SlicePlace::Opened(l) => {
-                let constructor = self.constructors[l];
-                self.collect(l, constructor, slice_index, payload, current_time, lanes)
-            }
-            SlicePlace::Fresh(l) => {
-                let begun = SliceConstructor::new(message_id, num_slices);
-                let constructor = begun.state;
-                self.collect(l, constructor, slice_index, payload, current_time, lanes)
-            }
+            };
+        };
+        let l = place.lane;
+        let stored = self.constructors[l];
+        let constructor = stored.start(place.fresh, message_id, num_slices as usize);
+        let size = self.settings.pieces * SLICE_SIZE;
+        let start = l * size;
+        let end = start + size;
+        let collected = constructor.process_slice(slice_index, payload, &mut lanes[start..end]);
+        let answer = collected.answer;
+        if let Collect::Refused(e) = answer {
+            return Arrived {
+                answer: Arrival::Refused(e),
+                state: self,
+            };
+        }
+        let state = self.with_lane(l, collected.state, current_time);
+        Arrived {
+            answer: Arrival::Taken,
+            state,
         }
     }
 
@@ -259,7 +289,17 @@ impl ReceiveChannelUnreliable {
             let Held::At(store, i) = held else {
                 return Look::Nothing;
             };
-            return self.show(store, i);
+            match store {
+                Store::Small => {
+                    let len = self.cell_lens[i] as usize;
+                    return Look::Message(Store::Small, i * SLICE_SIZE, len);
+                }
+                Store::Lanes => {
+                    let len = self.lane_lens[i];
+                    let size = self.settings.pieces * SLICE_SIZE;
+                    return Look::Message(Store::Lanes, i * size, len);
+                }
+            }
         }
         Look::Refused(Refusal::BadStore)
     }
@@ -280,7 +320,7 @@ impl ReceiveChannelUnreliable {
     }
 
     // Hands the first message of the queue out: its cell or lane is free again.
-    pub fn receive_message(self) -> Received
+    pub fn receive_message(mut self) -> Received
         requires { ⌜ Valid self ⌝ }
         ensures { λ r. ⌜ TakeGives self r ⌝ }
     {
@@ -291,15 +331,32 @@ impl ReceiveChannelUnreliable {
                 state: self,
             };
         };
-        let answer = self.show(store, i);
+        let count = self.count;
+        self.count = count - 1;
+        close_up(&mut self.queue, count);
         match store {
             Store::Small => {
-                let state = self.without_cell(i);
-                Received { answer, state }
+                let len = self.cell_lens[i] as usize;
+                let answer = Look::Message(Store::Small, i * SLICE_SIZE, len);
+                self.memory_usage_bytes -= len;
+                self.cells[i] = false;
+                self.cell_lens[i] = 0;
+                return Received {
+                    answer,
+                    state: self,
+                };
             }
             Store::Lanes => {
-                let state = self.without_lane(i);
-                Received { answer, state }
+                let len = self.lane_lens[i];
+                let size = self.settings.pieces * SLICE_SIZE;
+                let answer = Look::Message(Store::Lanes, i * size, len);
+                self.memory_usage_bytes -= len;
+                self.lanes[i] = false;
+                self.lane_lens[i] = 0;
+                return Received {
+                    answer,
+                    state: self,
+                };
             }
         }
     }
@@ -342,252 +399,177 @@ impl ReceiveChannelUnreliable {
         if self.count == 0 {
             return Held::Nothing;
         }
-        let first = self.queue[0];
+        let first = self.queue[0] as usize;
         if first < SLOTS {
             return Held::At(Store::Small, first);
         }
         Held::At(Store::Lanes, first - SLOTS)
     }
 
-    // The first message of the queue, which is held there, as a look shows it.
-    fn show(self, store: Store, i: usize) -> Look
-        requires { ⌜ Valid self × (heldOf (Held.At store i) ≡ nextPlace self) ⌝ }
-        ensures { λ r. ⌜ lookOf r ≡ shownAt self (heldOf (Held.At store i)) ⌝ }
-    {
-        match store {
-            Store::Small => {
-                let len = self.cell_lens[i];
-                Look::Message(Store::Small, i * SLICE_SIZE, len)
-            }
-            Store::Lanes => {
-                let len = self.lane_lens[i];
-                let size = self.settings.pieces * SLICE_SIZE;
-                Look::Message(Store::Lanes, i * size, len)
-            }
-        }
-    }
-
-    // The cell for a small message of n bytes.
-    fn message_place(self, n: usize, small: usize, lane: usize) -> MessagePlace
-        requires { ⌜ Valid self ⌝ }
+    // The cell for a small message of n bytes, where `free` is the lowest free one.
+    fn message_place(self, free: usize, n: usize, small: usize, lane: usize) -> MessagePlace
+        requires { ⌜ Valid self × (free ≡ lowestFree (self .cells) (self .settings .slots)) ⌝ }
         ensures { λ r. ⌜ messagePlaceOf r ≡ messageSpot self n small lane ⌝ }
     {
         let settings = self.settings;
         if settings.stores_hold(small, lane) {
             if SLICE_SIZE < n {
-                return MessagePlace::Nowhere(Arrival::Refused(Refusal::TooLong));
+                return no_cell(Arrival::Refused(Refusal::TooLong));
             }
             if settings.max_memory_usage_bytes < self.memory_usage_bytes + n {
-                return MessagePlace::Nowhere(Arrival::Dropped);
+                return no_cell(Arrival::Dropped);
             }
-            let slots = settings.slots;
-            let i = words::lowest_free(&self.cells, slots);
-            if slots <= i {
-                return MessagePlace::Nowhere(Arrival::Refused(Refusal::TableFull));
+            if settings.slots <= free {
+                return no_cell(Arrival::Refused(Refusal::TableFull));
             }
-            return MessagePlace::Cell(i);
+            return MessagePlace {
+                answer: Arrival::Taken,
+                cell: free,
+            };
         }
-        MessagePlace::Nowhere(Arrival::Refused(Refusal::BadStore))
+        no_cell(Arrival::Refused(Refusal::BadStore))
     }
 
-    // The lane for a piece of a message with so many pieces.
+    // The lane for a piece of a message with so many pieces, where `free` is the lowest free one.
     fn slice_place(
         self,
+        opened: Opened,
+        free: usize,
         id: u64,
         num_slices: u64,
         current_time: u64,
         small: usize,
         lane: usize,
     ) -> SlicePlace
-        requires { ⌜ Valid self ⌝ }
+        requires { ⌜ Valid self × (opened ≡ openedIn self id) × (free ≡ lowestFree (self .lanes) (self .settings .lanes)) ⌝ }
         ensures { λ r. ⌜ slicePlaceOf r ≡ laneSpot self id «num_slices» «current_time» small lane ⌝ }
     {
         let settings = self.settings;
         if settings.stores_hold(small, lane) {
             if LIMIT <= id {
-                return SlicePlace::Nowhere(Arrival::Refused(Refusal::BadNumber));
+                return no_lane(Arrival::Refused(Refusal::BadNumber));
             }
             if current_time < self.latest {
-                return SlicePlace::Nowhere(Arrival::Refused(Refusal::ClockBack));
+                return no_lane(Arrival::Refused(Refusal::ClockBack));
             }
             if num_slices == 0 {
-                return SlicePlace::Nowhere(Arrival::Refused(Refusal::InvalidSliceMessage));
+                return no_lane(Arrival::Refused(Refusal::InvalidSliceMessage));
             }
             if (settings.pieces as u64) < num_slices {
-                return SlicePlace::Nowhere(Arrival::Refused(Refusal::TooLong));
+                return no_lane(Arrival::Refused(Refusal::TooLong));
             }
-            let l = channel::find(&self.opens, &self.lane_ids, id);
-            if l < LANES {
-                return self.opened(l, num_slices);
+            let num = num_slices as usize;
+            if let Opened::At(l, charge) = opened {
+                return again(l, charge, num);
             }
-            return self.fresh(num_slices as usize);
+            return self.fresh(free, num);
         }
-        SlicePlace::Nowhere(Arrival::Refused(Refusal::BadStore))
-    }
-
-    // Lane l, which is open, for a piece of a message with so many pieces.
-    fn opened(self, l: usize, num_slices: u64) -> SlicePlace
-        requires { ⌜ Valid self × (l < LANES) ⌝ }
-        ensures { λ r. ⌜ slicePlaceOf r ≡ openLane self l «num_slices» ⌝ }
-    {
-        let constructor = self.constructors[l];
-        if constructor.num_slices() as u64 == num_slices {
-            return SlicePlace::Opened(l);
-        }
-        SlicePlace::Nowhere(Arrival::Refused(Refusal::InvalidSliceMessage))
+        no_lane(Arrival::Refused(Refusal::BadStore))
     }
 
     // The lowest free lane, for a message with so many pieces.
-    fn fresh(self, num_slices: usize) -> SlicePlace
-        requires { ⌜ Valid self × («num_slices» ≤ self .settings .pieces) ⌝ }
+    fn fresh(self, free: usize, num_slices: usize) -> SlicePlace
+        requires { ⌜ Valid self × (free ≡ lowestFree (self .lanes) (self .settings .lanes)) × («num_slices» ≤ self .settings .pieces) ⌝ }
         ensures { λ r. ⌜ slicePlaceOf r ≡ freshLane self «num_slices» ⌝ }
     {
         if self.settings.max_memory_usage_bytes
             < self.memory_usage_bytes + SLICE_SIZE * num_slices
         {
-            return SlicePlace::Nowhere(Arrival::Dropped);
+            return no_lane(Arrival::Dropped);
         }
-        let lanes = self.settings.lanes;
-        let l = words::lowest_free(&self.lanes, lanes);
-        if lanes <= l {
-            return SlicePlace::Nowhere(Arrival::Refused(Refusal::TableFull));
+        if self.settings.lanes <= free {
+            return no_lane(Arrival::Refused(Refusal::TableFull));
         }
-        SlicePlace::Fresh(l)
-    }
-
-    // Gives the constructor of lane l a piece, with that lane's part of the store.
-    fn collect(
-        self,
-        l: usize,
-        constructor: SliceConstructor,
-        slice_index: SliceIndex,
-        payload: &[u8],
-        current_time: u64,
-        lanes: &mut [u8],
-    ) -> Arrived
-        requires { ⌜ Valid self × Fits self l constructor «current_time» × (lanesLen (self .settings) ≤ length (now lanes)) ⌝ }
-        ensures { λ r. ⌜ LaneGives self l constructor («slice_index» .0) (now (payload .entry)) «current_time» (now (lanes .entry)) (now (lanes .exit)) r ⌝ }
-    {
-        let size = self.settings.pieces * SLICE_SIZE;
-        let start = l * size;
-        let end = start + size;
-        let collected = constructor.process_slice(slice_index, payload, &mut lanes[start..end]);
-        let answer = collected.answer;
-        let kept = collected.state;
-        match answer {
-            Collect::Refused(e) => Arrived {
-                answer: Arrival::Refused(e),
-                state: self,
-            },
-            Collect::Whole(n) => {
-                let state = self.with_whole(l, n, current_time);
-                Arrived {
-                    answer: Arrival::Taken,
-                    state,
-                }
-            }
-            Collect::More => {
-                let state = self.with_open(l, kept, current_time);
-                Arrived {
-                    answer: Arrival::Taken,
-                    state,
-                }
-            }
+        SlicePlace {
+            answer: Arrival::Taken,
+            lane: free,
+            fresh: true,
         }
     }
 
-    // With a small message of n bytes in cell i, the last of the queue.
-    fn with_message(mut self, i: usize, n: usize) -> ReceiveChannelUnreliable
-        requires { ⌜ Valid self × (i < SLOTS) × (self .count < ROWS) × (self .«memory_usage_bytes» + n ≤ self .settings .«max_memory_usage_bytes») ⌝ }
-        ensures { λ r. ⌜ r ≡ withMessage self i n ⌝ }
-    {
-        let last = self.count;
-        self.memory_usage_bytes += n;
-        self.cells[i] = true;
-        self.cell_lens[i] = n;
-        self.queue[last] = i;
-        self.count = last + 1;
-        self
-    }
-
-    // With lane l open, and more pieces to come. A repeat renews the time too.
-    fn with_open(
+    // With lane l after a piece, by its constructor: open, or whole and the last of the queue. A repeat
+    // renews the time too.
+    fn with_lane(
         mut self,
         l: usize,
         constructor: SliceConstructor,
         current_time: u64,
     ) -> ReceiveChannelUnreliable
         requires { ⌜ Valid self × Fits self l constructor «current_time» ⌝ }
-        ensures { λ r. ⌜ r ≡ withOpen self l constructor «current_time» ⌝ }
+        ensures { λ r. ⌜ r ≡ withPiece self l constructor «current_time» ⌝ }
     {
-        let before = self.lane_lens[l];
-        let charge = SLICE_SIZE * constructor.num_slices();
         let id = constructor.message_id();
-        self.memory_usage_bytes = self.memory_usage_bytes - before + charge;
+        let kept = constructor.keep();
+        let left = kept.constructor;
+        let charge = self.lane_lens[l];
+        self.memory_usage_bytes = self.memory_usage_bytes - charge + kept.len;
         self.latest = current_time;
         self.lanes[l] = true;
-        self.lane_lens[l] = charge;
+        self.lane_lens[l] = kept.len;
+        self.constructors[l] = left;
+        if kept.whole {
+            let last = self.count;
+            self.opens[l] = false;
+            self.lane_ids[l] = 0;
+            self.last_received[l] = 0;
+            self.queue[last] = (SLOTS + l) as u8;
+            self.count = last + 1;
+            return self;
+        }
         self.opens[l] = true;
         self.lane_ids[l] = id.0;
         self.last_received[l] = current_time;
-        self.constructors[l] = constructor;
-        self
-    }
-
-    // With lane l whole and n bytes long, the last of the queue, and no more pieces to come.
-    fn with_whole(mut self, l: usize, n: usize, current_time: u64) -> ReceiveChannelUnreliable
-        requires { ⌜ Valid self × (l < LANES) × (self .count < ROWS) × (self .«memory_usage_bytes» - getD (self .«lane_lens») l 0 + n ≤ self .settings .«max_memory_usage_bytes») ⌝ }
-        ensures { λ r. ⌜ r ≡ withWhole self l n «current_time» ⌝ }
-    {
-        let blank = SliceConstructor::blank();
-        let before = self.lane_lens[l];
-        let last = self.count;
-        self.memory_usage_bytes = self.memory_usage_bytes - before + n;
-        self.latest = current_time;
-        self.lanes[l] = true;
-        self.lane_lens[l] = n;
-        self.opens[l] = false;
-        self.lane_ids[l] = 0;
-        self.last_received[l] = 0;
-        self.constructors[l] = blank;
-        self.queue[last] = SLOTS + l;
-        self.count = last + 1;
-        self
-    }
-
-    // Without the first message of the queue, which is in cell i.
-    fn without_cell(mut self, i: usize) -> ReceiveChannelUnreliable
-        requires { ⌜ Valid self × (i < SLOTS) × (0 < self .count) ⌝ }
-        ensures { λ r. ⌜ r ≡ withoutCell self i ⌝ }
-    {
-        let len = self.cell_lens[i];
-        let count = self.count;
-        self.memory_usage_bytes -= len;
-        self.cells[i] = false;
-        self.cell_lens[i] = 0;
-        self.count = count - 1;
-        close_up(&mut self.queue, count);
-        self
-    }
-
-    // Without the first message of the queue, which is in lane l; nothing else is left there.
-    fn without_lane(mut self, l: usize) -> ReceiveChannelUnreliable
-        requires { ⌜ Valid self × (l < LANES) × (0 < self .count) ⌝ }
-        ensures { λ r. ⌜ r ≡ withoutLane self l ⌝ }
-    {
-        let len = self.lane_lens[l];
-        let count = self.count;
-        self.memory_usage_bytes -= len;
-        self.lanes[l] = false;
-        self.lane_lens[l] = 0;
-        self.count = count - 1;
-        close_up(&mut self.queue, count);
         self
     }
 }
 
+// What a small message is told that goes nowhere.
+fn no_cell(answer: Arrival) -> MessagePlace
+    ensures { λ r. ⌜ r ≡ noCell answer ⌝ }
+{
+    MessagePlace { answer, cell: 0 }
+}
+
+// What a piece is told that goes nowhere.
+fn no_lane(answer: Arrival) -> SlicePlace
+    ensures { λ r. ⌜ r ≡ noLane answer ⌝ }
+{
+    SlicePlace {
+        answer,
+        lane: 0,
+        fresh: false,
+    }
+}
+
+// Lane l, which is open, for a message with so many pieces; its charge tells how many it has.
+fn again(l: usize, charge: usize, num_slices: usize) -> SlicePlace
+    requires { ⌜ «num_slices» ≤ PIECES ⌝ }
+    ensures { λ r. ⌜ slicePlaceOf r ≡ pick (eqb charge (SLICE_SIZE * «num_slices»)) (opened l) (nothing (refused 8)) ⌝ }
+{
+    if charge == SLICE_SIZE * num_slices {
+        return SlicePlace {
+            answer: Arrival::Taken,
+            lane: l,
+            fresh: false,
+        };
+    }
+    no_lane(Arrival::Refused(Refusal::InvalidSliceMessage))
+}
+
+// Where the open message with an id is.
+fn locate<'a>(opens: &'a [bool], lane_ids: &'a [u64], lane_lens: &'a [usize], id: u64) -> Opened
+    requires { ⌜ (length (now opens) ≡ LANES) × (length (now «lane_ids») ≡ LANES) × (length (now «lane_lens») ≡ LANES) ⌝ }
+    ensures { λ r. ⌜ r ≡ openedBy (now (opens .entry)) (now («lane_ids» .entry)) (now («lane_lens» .entry)) id ⌝ }
+{
+    let l = channel::find(opens, lane_ids, id);
+    if LANES <= l {
+        return Opened::Nothing;
+    }
+    Opened::At(l, lane_lens[l])
+}
+
 // Takes the first entry off a queue of so many: the others move up, and the last one's place is blank.
-fn close_up(queue: &mut [usize; ROWS], count: usize)
+fn close_up(queue: &mut [u8; ROWS], count: usize)
     requires { ⌜ (0 < count) × (count ≤ ROWS) × (length (now queue) ≡ ROWS) × ((k : ℕ) → count ≤ k → getD (now queue) k 0 ≡ 0) ⌝ }
     ensures { λ _. ⌜ now (queue .exit) ≡ drop 1 (now (queue .entry)) ++ 0 ∷ [] ⌝ }
 {

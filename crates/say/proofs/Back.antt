@@ -80,10 +80,6 @@ parts-point (c ∷ t) u a = rw (ne-eqb c 46 (a .0)) (ap (grown c) (parts-point t
 clear-glyph : (d : ℕ) → d < 16 → glyph d ≡ 46 → ⊥
 clear-glyph d h e = omega (arith, glyph-low d h)
 
-clear-byte : (b : ℕ) → Clear (byteOf b)
-unfolding All
-clear-byte b = (clear-glyph (b / 16 % 16) (omega arith), (clear-glyph (b % 16) (omega arith), tt))
-
 clear-digits : (k n : ℕ) → Clear (digits 10 k n)
 unfolding All
 clear-digits zero n = tt

@@ -323,10 +323,6 @@ module _ (s : List ℕ) (from e : ℕ) (h : from ≤ length s) (u : e ≡ until 
       let d : drop (suc i) (drop from s) ≡ drop (e + 1) s = drop-drop (suc i) from s ∙ ap (λ (k : ℕ). drop k s) f in
       rw (le-leb from (length s) h) (first-part (drop from s) ∙ rw (t, d, n))
 
--- behind the end there is none
-pub parts-end : (s : List ℕ) (from : ℕ) → length s < from → partsFrom s from ≡ []
-parts-end s from h = rw (lt-leb from (length s) h)
-
 -- ---- part after part: what is left, from here, gives what the whole gives
 
 abbrev pub left : ℕ → List ℕ → ℕ → ℕ → Outcome

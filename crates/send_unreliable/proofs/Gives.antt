@@ -18,7 +18,7 @@ use Rattle.channel.specs.Settings.{settingsRefusal, leastSettings, laneLen, sto
 use Rattle.channel.specs.declared.Settings.{Settings}
 use Rattle.channel.specs.declared.Setup.the-variants as setup
 use Rattle.channel.proofs.Good.{good, least-good}
-use Rattle.channel.proofs.Unique.{numbered-above}
+use Rattle.words.proofs.Unique.{numbered-above}
 use Rattle.pack.specs.Pack.{pack}
 use Rattle.pack.specs.Encode.{roundRefusal}
 use Rattle.pack.specs.Round.{Sums, sent, wentOf, Gives}

@@ -138,10 +138,6 @@ covered-not : (left : ℕ) (m : List ℕ) (ms : List (List ℕ)) → left < leng
 unfolding covered
 covered-not left m ms h = simp (lt-ltb _ _ h)
 
-covered-first : (left : ℕ) (m : List ℕ) (ms : List (List ℕ)) → length m ≤ left → covered left (m ∷ ms) ≡ m ∷ covered (left - length m) ms
-unfolding covered
-covered-first left m ms h = simp (le-ltb _ _ h)
-
 module _ (s : Settings) (small lanes : List ℕ) where
   abbrev sentFrom : Chosen → List (List ℕ) → List ℕ
   sentFrom c ms = payloads small lanes (reached (go s) c (map length ms) .items)

@@ -1,6 +1,6 @@
 pub mod Valid
+pub mod Part
 pub mod Whole
 pub mod Order
 pub mod Unique
 pub mod Arrivals
-pub mod Table

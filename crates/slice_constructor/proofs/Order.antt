@@ -46,11 +46,6 @@ never-refused c msg i m num room low = not-refused _ _ _ _ (good-piece c msg i m
 
 -- ---- what the lane holds
 
-pub length-laneTaken : (c : SliceConstructor) (i : ℕ) (bs lane : List ℕ) → length (laneTaken c i bs lane) ≡ length lane
-unfolding laneTaken
-length-laneTaken c i bs lane =
-    pick-cases (λ (l : List ℕ). length l ≡ length lane) (getD (c .received) i false) (λ _. refl) (λ _. length-splice (i * SLICE_SIZE) bs lane)
-
 -- of a new one, nothing is asked
 pub holds-new : (id n : ℕ) (msg lane : List ℕ) → n * SLICE_SIZE ≤ length lane → Holds (blankOf id n) msg lane
 unfolding blankOf

@@ -1,15 +1,10 @@
 -- One outcome only: two results that meet a promise are equal. Assumes nothing.
 use Prim.Native.Nat.{ℕ}
 use mathlib.Core.Path.{_≡_, refl, sym, ap, _∙_}
-use mathlib.Core.Bool.{false}
 use mathlib.Core.List.{List}
-use native.Mathlib.Omega.{arith}
-use borrow.Author.Tests.{ne-eqb}
 use lib.Dec.{eqb}
-use Rattle.words.specs.declared.Refusal.{Refusal}
 use Rattle.words.specs.Choice.{pick}
-use Rattle.words.specs.Refusal.{numberOf}
-use Rattle.words.proofs.Unique.{told-apart, refusalOf, refusal-undone}
+use Rattle.words.proofs.Unique.{told-apart, refusalOf, refusal-undone, numbered-above}
 use Rattle.slice_constructor.specs.declared.SliceConstructor.{SliceConstructor}
 use Rattle.slice_constructor.specs.declared.Begin.{Begin}
 use Rattle.slice_constructor.specs.declared.Begin.the-variants as begin
@@ -18,10 +13,6 @@ use Rattle.slice_constructor.specs.declared.Collect.{Collect}
 use Rattle.slice_constructor.specs.declared.Collect.the-variants as collect
 use Rattle.slice_constructor.specs.declared.Collected.{Collected}
 use Rattle.slice_constructor.specs.Collect.{beginNumber, BeginGives, Collection, missing, whole, refused, collectOf, CollectGives}
-
--- 0 is no refusal's number
-pub numbered-above : (e : Refusal) → eqb (numberOf e) 0 ≡ false
-numbered-above e = ne-eqb (numberOf e) 0 (λ z. let s = ap numberOf (sym (ap refusalOf z) ∙ refusal-undone e) in omega arith)
 
 -- ---- a beginning
 

@@ -16,6 +16,7 @@ use Rattle.slice_constructor.specs.declared.Begun.{Begun}
 use Rattle.slice_constructor.specs.declared.Collect.{Collect}
 use Rattle.slice_constructor.specs.declared.Collect.the-variants as collect
 use Rattle.slice_constructor.specs.declared.Collected.{Collected}
+use Rattle.slice_constructor.specs.declared.Kept.{Kept}
 
 -- ---- what is always true of a reassembly
 
@@ -95,6 +96,25 @@ laneTaken c i bs lane = pick (getD (c .received) i false) lane (splice (i * SLIC
 abbrev pub wholeLen : SliceConstructor → ℕ
 wholeLen c = (c .«num_slices» - 1) * SLICE_SIZE + c .«last_len»
 
+-- ---- what a lane keeps: whole and as long as it is, or open and charged
+
+abbrev pub isWhole : SliceConstructor → Bool
+isWhole c = eqb (c .«num_received_slices») (c .«num_slices»)
+
+-- 1,200 × num_slices; when complete the charge becomes the exact length
+abbrev pub laneCharge : SliceConstructor → ℕ
+laneCharge c = pick (isWhole c) (wholeLen c) (SLICE_SIZE * c .«num_slices»)
+
+abbrev pub kept : SliceConstructor → SliceConstructor
+kept c = pick (isWhole c) (blankOf 0 0) c
+
+abbrev pub keptOf : SliceConstructor → Kept
+keptOf c = record { whole = isWhole c; len = laneCharge c; constructor = kept c }
+
+-- the one that a piece goes to: for a fresh message one of its own
+abbrev pub startOf : SliceConstructor → Bool → ℕ → ℕ → SliceConstructor
+startOf c fresh id n = pick fresh (blankOf id n) c
+
 -- ---- the answer
 
 -- more pieces are to come; the message is whole, and so long; or the number of the refusal
@@ -110,7 +130,7 @@ collectOf (collect.Refused e) = refused (numberOf e)
 
 -- whole when as many pieces are here as the message has
 unfoldable pub answerOf : SliceConstructor → Collection
-answerOf c = pick (eqb (c .«num_received_slices») (c .«num_slices»)) (whole (wholeLen c)) missing
+answerOf c = pick (isWhole c) (whole (wholeLen c)) missing
 
 -- what a piece gives, all of it: a refusal changes no state and no byte
 pub record CollectGives (c : SliceConstructor) (i : ℕ) (bs lane lane' : List ℕ) (r : Collected) : Type 0 where

@@ -3,7 +3,7 @@
 ghost use mathlib.Core.Path.{_≡_};
 ghost use Prim.Native.Nat.{_<_};
 ghost use lib.ListN.{length};
-ghost use Rattle.slice_constructor.specs.Collect.{Valid, blankOf, BeginGives, sized, collectRefusal, taken, laneTaken, collectOf, answerOf, CollectGives};
+ghost use Rattle.slice_constructor.specs.Collect.{Valid, blankOf, BeginGives, startOf, keptOf, sized, collectRefusal, taken, laneTaken, collectOf, answerOf, CollectGives};
 ghost use Rattle.slice_constructor.specs.Steps.{judgedNumber};
 use words::LIMIT;
 use words::MessageId;
@@ -42,6 +42,14 @@ pub enum Collect {
 pub struct Collected {
     pub answer: Collect,
     pub state: SliceConstructor,
+}
+
+// What a lane keeps of a message: whether it is whole, how long it then is or what it is charged
+// before, and what puts it together, which is blank once it is whole.
+pub struct Kept {
+    pub whole: bool,
+    pub len: usize,
+    pub constructor: SliceConstructor,
 }
 
 // Whether a piece may be taken.
@@ -111,6 +119,37 @@ impl SliceConstructor {
                     state,
                 }
             }
+        }
+    }
+
+    // The reassembly that a piece goes to: this one, or for a fresh message one of its own.
+    pub fn start(self, fresh: bool, message_id: MessageId, num_slices: usize) -> SliceConstructor
+        requires { ⌜ Valid (startOf self fresh («message_id» .0) «num_slices») ⌝ }
+        ensures { λ r. ⌜ r ≡ startOf self fresh («message_id» .0) «num_slices» ⌝ }
+    {
+        if fresh {
+            return SliceConstructor::empty(message_id, num_slices);
+        }
+        self
+    }
+
+    // What a lane keeps of it.
+    pub fn keep(self) -> Kept
+        requires { ⌜ Valid self × (0 < self .«num_slices») ⌝ }
+        ensures { λ r. ⌜ r ≡ keptOf self ⌝ }
+    {
+        if self.num_received_slices == self.num_slices {
+            let constructor = SliceConstructor::blank();
+            return Kept {
+                whole: true,
+                len: (self.num_slices - 1) * SLICE_SIZE + self.last_len,
+                constructor,
+            };
+        }
+        Kept {
+            whole: false,
+            len: SLICE_SIZE * self.num_slices,
+            constructor: self,
         }
     }
 

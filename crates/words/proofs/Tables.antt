@@ -10,7 +10,7 @@ use lib.Dec.{eqb}
 use lib.ListN.{length, getD, set, take, drop, replicate, length-set, length-drop, take-append-drop}
 use lib.Seq.{take-take, set-append-left, length-take-le}
 use Rattle.words.specs.Choice.{pick}
-use Rattle.words.specs.Lists.{holds, splice, total}
+use Rattle.words.specs.Lists.{holds, splice, total, sumBelow}
 use Rattle.words.proofs.Lists.{holds-le, drop-take}
 use Rattle.words.proofs.Splice.{take-splice, drop-splice}
 use Rattle.words.proofs.Suffix.{run, drop-at-splice}
@@ -48,10 +48,14 @@ all-held [] f = refl
 all-held (true ∷ l) f = ap suc (all-held l (λ i h. f (suc i) (suc-le-suc h)))
 all-held (false ∷ l) f = let e : false ≡ true = f zero (suc-le-suc zero-le) in let z : _≡_ {A = ℕ} 0 1 = cc in omega arith
 
+-- every entry of a blank list is blank
+pub blanks : {A : Type 0} (z : A) (n k : ℕ) → getD (replicate n z) k z ≡ z
+blanks z zero k = refl
+blanks z (suc n) zero = refl
+blanks z (suc n) (suc k) = blanks z n k
+
 pub none-held : (n i : ℕ) → getD (replicate n false) i false ≡ false
-none-held zero i = refl
-none-held (suc n) zero = refl
-none-held (suc n) (suc i) = none-held n i
+none-held = blanks false
 
 -- ---- a part of a list: n elements from a place on
 
@@ -106,6 +110,15 @@ module _ {A : Type 0} (f : A → ℕ) where
   at-most-total [] i d h = absurd (not-suc-le-zero h)
   at-most-total (x ∷ xs) zero d h = omega arith
   at-most-total (x ∷ xs) (suc i) d h = let r : f (getD xs i d) ≤ total f xs = at-most-total xs i d (le-of-suc-le-suc h) in omega arith
+
+-- the sum over a table of numbers, place by place
+pub total-below : (xs : List ℕ) (n : ℕ) (f : ℕ → ℕ) → length xs ≡ n → ((i : ℕ) → i < n → getD xs i 0 ≡ f i) → total (λ m. m) xs ≡ sumBelow n f
+unfolding total sumBelow
+total-below [] zero f e g = refl
+total-below [] (suc n) f e g = absurd (omega arith)
+total-below (x ∷ xs) zero f e g = absurd (omega arith)
+total-below (x ∷ xs) (suc n) f e g =
+    let h : x ≡ f 0 = g 0 (suc-le-suc zero-le) in rw (h, total-below xs n (λ i. f (suc i)) (omega arith) (λ i l. g (suc i) (suc-le-suc l)))
 
 -- ---- a part that is lent, and given back
 

@@ -1,6 +1,9 @@
 -- One outcome only: a map that can be undone tells its arguments apart, and a refusal's number tells the refusal. Assumes nothing.
 use Prim.Native.Nat.{ℕ}
 use mathlib.Core.Path.{_≡_, refl, sym, ap, _∙_}
+use mathlib.Core.Bool.{false}
+use native.Mathlib.Omega.{arith}
+use borrow.Author.Tests.{ne-eqb}
 use lib.Dec.{eqb}
 use Rattle.words.specs.Choice.{pick}
 use Rattle.words.specs.Refusal.{numberOf}
@@ -48,6 +51,10 @@ refusal-undone ClockBack = refl
 refusal-undone NoRoom = refl
 refusal-undone WrongKind = refl
 refusal-undone BadIndex = refl
+
+-- 0 is no refusal's number
+pub numbered-above : (e : Refusal) → eqb (numberOf e) 0 ≡ false
+numbered-above e = ne-eqb (numberOf e) 0 (λ z. let s = ap numberOf (sym (ap refusalOf z) ∙ refusal-undone e) in omega arith)
 
 pub one-refusal : (r q : Refusal) → numberOf r ≡ numberOf q → r ≡ q
 one-refusal = told-apart numberOf refusalOf refusal-undone

@@ -1,5 +1,5 @@
 -- Words on lists and bounded tables. Nothing here knows a size or a record. Assumes nothing.
-use Prim.Native.Nat.{ℕ, suc, _+_}
+use Prim.Native.Nat.{ℕ, zero, suc, _+_}
 use mathlib.Core.Bool.{Bool, true, false, not}
 use mathlib.Core.List.{List, [], _∷_, _++_}
 use lib.ListN.{take, drop, set}
@@ -34,6 +34,11 @@ holds (false ∷ l) = holds l
 unfoldable pub total : {A : Type 0} → (A → ℕ) → List A → ℕ
 total f [] = 0
 total f (x ∷ xs) = f x + total f xs
+
+-- the sum over the places below n
+unfoldable pub sumBelow : ℕ → (ℕ → ℕ) → ℕ
+sumBelow zero f = 0
+sumBelow (suc n) f = f 0 + sumBelow n (λ i. f (suc i))
 
 -- the list without its element at k
 unfoldable pub without : {A : Type 0} → ℕ → List A → List A

@@ -23,14 +23,8 @@ loop-holds c = (omega arith, omega (arith, c .pre .0), c .pre .1, c .pre .2, mov
 add-queue : tie.Need-add-queue Inv-loop μ-loop
 add-queue c = omega arith
 
-mul-queue : tie.Need-mul-queue Inv-loop μ-loop
-mul-queue c = omega arith
-
 element-copy-out-queue : tie.Need-element-copy-out-queue Inv-loop μ-loop
 element-copy-out-queue c = omega arith
-
-mul-queue-2 : tie.Need-mul-queue-2 Inv-loop μ-loop
-mul-queue-2 c = omega arith
 
 element-write-queue : tie.Need-element-write-queue Inv-loop μ-loop
 element-write-queue c = omega arith
@@ -45,9 +39,6 @@ loop-again : tie.Need-loop-again Inv-loop μ-loop
 loop-again c =
     let l = c .before .before .loop in
     (omega arith, l .inv .1, l .inv .2, l .inv .3, moved-more 0 _ _ _ (l .inv .4) (omega arith))
-
-mul-queue-3 : tie.Need-mul-queue-3 Inv-loop μ-loop
-mul-queue-3 c = omega arith
 
 element-write-queue-2 : tie.Need-element-write-queue-2 Inv-loop μ-loop
 element-write-queue-2 c = omega arith
@@ -68,13 +59,10 @@ close-up-spec =
     sub-last
     loop-holds
     add-queue
-    mul-queue
     element-copy-out-queue
-    mul-queue-2
     element-write-queue
     add-i
     loop-less
     loop-again
-    mul-queue-3
     element-write-queue-2
     returns)

@@ -3,7 +3,7 @@ use mathlib.Core.Path.{_≡_, sym, _∙_}
 use mathlib.Core.Bool.{true, false}
 use Rattle.channel.specs.Settings.{storesHold}
 use Rattle.receive_reliable.proofs.Answers.{bad-store, bad-number, old-id, new-id}
-use Rattle.receive_reliable.proofs.Spots.{held-ignored, nothing-held}
+use Rattle.receive_reliable.proofs.Spots.{held-ignored, absent}
 use borrow.Author.Needs.{needs}
 use Rattle.receive_reliable.proofs.ReceiveChannelReliable.entry.Statement.{statement}
 use Rattle.receive_reliable.proofs.ReceiveChannelReliable.entry.Tie as tie
@@ -21,24 +21,20 @@ returns c = bad-number _ _ _ _ (fine (c .before)) (c .if2 .taken)
 returns-2 : tie.Need-returns-2
 returns-2 c = old-id _ _ _ _ (fine (c .before .before .before)) (c .before .before .if2 .left) (c .if3 .taken)
 
-held-requires : tie.Need-held-requires
-held-requires c κs = search needs
-
 enum-told : tie.Need-enum-told
 enum-told c = search needs
 
-enum-told-2 : tie.Need-enum-told-2
-enum-told-2 c = search needs
-
 returns-3 : tie.Need-returns-3
 returns-3 c =
-    let fresh = c .before .before .before in
-    new-id _ _ _ _ (fine (fresh .before .before .before)) (fresh .before .before .if2 .left) (fresh .if3 .left) true (held-ignored _ _ _ _ (sym (c .before .before .held .ensures) ∙ c .enum-told2 .given .1))
+    let new = c .before .before in
+    let start = new .before .before .before .before .before .before in
+    new-id _ _ _ _ (fine (new .before .before .before)) (new .before .before .if2 .left) (new .if3 .left) true (held-ignored (start .args .self) (start .args .id) _ _ (sym (start .pre .1) ∙ c .enum-told .given .1))
 
 returns-4 : tie.Need-returns-4
 returns-4 c =
-    let fresh = c .before .before .before in
-    new-id _ _ _ _ (fine (fresh .before .before .before)) (fresh .before .before .if2 .left) (fresh .if3 .left) false (nothing-held _ _ (sym (c .before .before .held .ensures) ∙ c .enum-told .given .1))
+    let new = c .before in
+    let start = new .before .before .before .before .before .before in
+    new-id _ _ _ _ (fine (new .before .before .before)) (new .before .before .if2 .left) (new .if3 .left) false (absent (start .args .self) (start .args .id) _ (sym (start .pre .1)) (c .match .keys2) .1)
 
 returns-5 : tie.Need-returns-5
 returns-5 c = bad-store _ _ _ _ (sym (c .before .stores-hold .ensures) ∙ c .if1 .left)
@@ -50,9 +46,7 @@ entry-spec =
     stores-hold-requires
     returns
     returns-2
-    held-requires
     enum-told
-    enum-told-2
     returns-3
     returns-4
     returns-5)

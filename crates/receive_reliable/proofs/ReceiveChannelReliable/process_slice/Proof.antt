@@ -1,100 +1,199 @@
 -- `ReceiveChannelReliable::process_slice` meets its contract: its lane's constructor is given the piece. Assumes nothing.
 use Prim.Native.Nat.{_<_}
-use mathlib.Core.Path.{_≡_, sym, ap, _∙_}
+use mathlib.Core.Path.{_≡_, refl, sym}
 use native.Mathlib.Omega.{arith}
-use lib.ListN.{length}
 use Rattle.words.specs.Sizes.{LANES}
-use Rattle.receive_reliable.specs.Receive.{arrivalOf, opened, fresh, nothing}
-use Rattle.receive_reliable.specs.Steps.{slicePlaceOf, laneSpot}
-use Rattle.receive_reliable.proofs.Spots.{open-fits, fresh-fits}
-use Rattle.receive_reliable.proofs.Gives.{slice-left, copied-fits, slice-opened, begun-fits, slice-fresh}
+use Rattle.words.proofs.Tables.{part-size}
+use Rattle.channel.proofs.Good.{lane-end}
+use Rattle.receive_reliable.specs.Receive.{withLane}
+use Rattle.receive_reliable.proofs.Valid.{lane-used}
+use Rattle.receive_reliable.proofs.Gives.{InLane, lane-told, slice-left, lane-inside, lane-low, within, start-fits, slice-refused, taken-fits, charge-fits, slice-taken}
+use Rattle.receive_reliable.specs.Steps.{heldIn}
 use borrow.Author.Needs.{needs}
 use Rattle.receive_reliable.proofs.ReceiveChannelReliable.process_slice.Statement.{statement}
 use Rattle.receive_reliable.proofs.ReceiveChannelReliable.process_slice.Tie as tie
 
--- the lane that the piece goes to, open already or a free one, or what it is told instead
-nowhere-to : (c : tie.After-place) → (let a = c .before .before .before .before .before .before .args in
-    laneSpot (a .t1) (a .message-id .0) (a .num-slices) (length (a .small .now)) (length (a .lanes .now)) ≡ nothing (arrivalOf (c .place .given .0 .0)))
-nowhere-to c = sym (c .before .before .slice-place .ensures) ∙ ap slicePlaceOf (c .place .given .1)
+abbrev begin : tie.After-locate → tie.Start
+begin c = c .before .before .before .before .before .before .before .before .before .before .before .before .before .before .before .before .before .before .before .before .before
 
-in-open : (c : tie.After-place2) → (let a = c .before .before .before .before .before .before .args in
-    laneSpot (a .t1) (a .message-id .0) (a .num-slices) (length (a .small .now)) (length (a .lanes .now)) ≡ opened (c .place2 .given .0 .0))
-in-open c = sym (c .before .before .slice-place .ensures) ∙ ap slicePlaceOf (c .place2 .given .1)
+abbrev start : tie.After-slice-place → tie.Start
+start c = begin (c .before .before .before .before .before)
 
-in-fresh : (c : tie.After-place3) → (let a = c .before .before .before .before .before .before .args in
-    laneSpot (a .t1) (a .message-id .0) (a .num-slices) (length (a .small .now)) (length (a .lanes .now)) ≡ fresh (c .place3 .given .0 .0))
-in-fresh c = sym (c .before .before .slice-place .ensures) ∙ ap slicePlaceOf (c .place3 .given .1)
+-- where the searches found the message
+located : (c : tie.After-locate) → (let a = begin c .args in heldIn (a .t1) (a .message-id .0) ≡ c .locate .result)
+located c = sym (rw (← c .before .before .before .before .before .before .before .before .before .before .before .before .find .ensures, ← c .before .before .before .before .before .before .find2 .ensures) (c .locate .ensures))
 
-open-low : (c : tie.After-place2) → c .place2 .given .0 .0 < LANES
-open-low c = let v = c .before .before .before .before .before .before .pre in omega (arith, open-fits _ v _ _ _ _ _ (in-open c) .1 .low, v .settings .lanes-most)
+-- the lane that the piece goes to
+in-lane : (c : tie.After-enum-told) → (let a = start (c .before .before) .args in let p = c .before .before .slice-place .result in
+    InLane (a .t1) (a .message-id .0) (a .num-slices) (a .slice-index .0) (a .payload .now) (a .small .now) (a .lanes .now) (p .lane) (p .fresh))
+in-lane c =
+    record {
+      valid = start (c .before .before) .pre;
+      spot = lane-told (c .before .before .slice-place .result) _ (c .before .before .slice-place .ensures) (c .enum-told .given .1);
+    }
+
+low : (c : tie.After-enum-told) → c .before .before .slice-place .result .lane < LANES
+low c = lane-low (in-lane c)
+
+find-requires : tie.Need-find-requires
+find-requires c κs = search needs
+
+find-requires-2 : tie.Need-find-requires-2
+find-requires-2 c κs = search needs
+
+locate-requires : tie.Need-locate-requires
+locate-requires c κs = search needs
+
+lowest-free-requires : tie.Need-lowest-free-requires
+lowest-free-requires c κs = search needs
 
 slice-place-requires : tie.Need-slice-place-requires
-slice-place-requires c κs = search needs
+slice-place-requires c κs = (begin (c .before .before .before .before) .pre, sym (located (c .before .before .before .before)), c .lowest-free .ensures)
 
-enum-known-place : tie.Need-enum-known-place
-enum-known-place c = search needs
-
-enum-known-place-2 : tie.Need-enum-known-place-2
-enum-known-place-2 c = search needs
-
-mul-constructor : tie.Need-mul-constructor
-mul-constructor c = let h = open-low (c .before) in omega arith
-
-element-copy-out-constructor : tie.Need-element-copy-out-constructor
-element-copy-out-constructor c = open-low (c .before)
-
-collect-requires : tie.Need-collect-requires
-collect-requires c κs =
-    let placed = c .before .before .before in
-    let v = placed .before .before .before .before .before .before .pre in
-    (v, copied-fits _ v _ _ _ _ _ (in-open placed) _, open-fits _ v _ _ _ _ _ (in-open placed) .0 .lane-room)
-
-enum-known-place-3 : tie.Need-enum-known-place-3
-enum-known-place-3 c = search needs
-
-new-requires : tie.Need-new-requires
-new-requires c κs = search needs
-
-collect-requires-2 : tie.Need-collect-requires-2
-collect-requires-2 c κs =
-    let placed = c .before .before .before .before in
-    let v = placed .before .before .before .before .before .before .pre in
-    (v, begun-fits _ v _ _ _ _ _ (in-fresh placed) _ (c .before .before .new .ensures), fresh-fits _ v _ _ _ _ _ (in-fresh placed) .0 .lane-room)
+enum-told : tie.Need-enum-told
+enum-told c = search needs
 
 returns : tie.Need-returns
-returns c = slice-left _ (c .before .before .before .before .before .before .before .pre) _ _ _ _ _ _ _ (nowhere-to (c .before))
+returns c = slice-left _ (start (c .before) .pre) _ _ _ _ _ _ (c .before .slice-place .result) (c .before .slice-place .ensures) (c .match .keys2)
+
+mul-stored : tie.Need-mul-stored
+mul-stored c = let h = low c in omega arith
+
+element-copy-out-stored : tie.Need-element-copy-out-stored
+element-copy-out-stored c = low c
+
+start-requires : tie.Need-start-requires
+start-requires c κs = let told = c .before in start-fits (in-lane told) _ _ refl .valid
+
+mul-size : tie.Need-mul-size
+mul-size c = omega (arith, start (c .before .before .before .before) .pre .settings .pieces-most)
+
+mul-start : tie.Need-mul-start
+mul-start c =
+    let told = c .before .before in
+    let v = start (told .before .before) .pre in
+    omega (arith, lane-end _ (v .settings) _ (lane-inside (in-lane told)))
+
+add-end : tie.Need-add-end
+add-end c =
+    let told = c .before .before in
+    let v = start (told .before .before) .pre in
+    omega (arith, lane-end _ (v .settings) _ (lane-inside (in-lane told)))
+
+sub-process-slice : tie.Need-sub-process-slice
+sub-process-slice c = search needs
+
+part-process-slice-start : tie.Need-part-process-slice-start
+part-process-slice-start c = search needs
+
+part-process-slice-end : tie.Need-part-process-slice-end
+part-process-slice-end c = omega (arith, within (in-lane (c .before .before)))
+
+process-slice-requires : tie.Need-process-slice-requires
+process-slice-requires c κs = let told = c .before .before .before in start-fits (in-lane told) _ _ (c .before .start .ensures) .valid
+
+enum-known-answer : tie.Need-enum-known-answer
+enum-known-answer c = search needs
 
 same-length : tie.Need-same-length
 same-length c = search needs
 
 returns-2 : tie.Need-returns-2
 returns-2 c =
-    let placed = c .before .before .before .before .before .before in
-    slice-opened _ (placed .before .before .before .before .before .before .pre) _ _ _ _ _ _ _ (in-open placed) _ _ _ (c .before .before .collect .ensures)
+    let told = c .before .before .before .before .before .before .before .before .before in
+    slice-refused (in-lane told) _ _ (c .before .before .before .before .before .before .before .start .ensures) _ (part-size _ _) _ _ (c .before .before .before .before .before .process-slice .ensures) _ (c .before .answer .given .1)
+
+keep-requires : tie.Need-keep-requires
+keep-requires c κs =
+    let told = c .before .before .before .before .before .before .before in
+    let f = taken-fits (in-lane told) _ _ (c .before .before .before .before .before .start .ensures) _ (part-size _ _) _ _ (c .before .before .before .process-slice .ensures) (c .match2 .keys2) in
+    (f .valid, f .one)
+
+mul-charge : tie.Need-mul-charge
+mul-charge c = let h = low (c .before .before .before .before .before .before .before .before) in omega arith
+
+element-copy-out-charge : tie.Need-element-copy-out-charge
+element-copy-out-charge c = low (c .before .before .before .before .before .before .before .before)
+
+sub-self : tie.Need-sub-self
+sub-self c = let told = c .before .before .before .before .before .before .before .before .before in lane-used _ (start (told .before .before) .pre) _ (low told)
+
+add-self : tie.Need-add-self
+add-self c =
+    let told = c .before .before .before .before .before .before .before .before .before .before in
+    let v = start (told .before .before) .pre in
+    let f = charge-fits (in-lane told) _ _ (c .before .before .before .before .before .before .before .before .start .ensures) _ (part-size _ _) _ _ (c .before .before .before .before .before .before .process-slice .ensures) (c .before .before .before .match2 .keys2) in
+    rw (c .before .before .keep .ensures) (omega (arith, f, v .settings .max-most))
+
+element-write-self : tie.Need-element-write-self
+element-write-self c = low (c .before .before .before .before .before .before .before .before .before .before)
+
+element-write-self-2 : tie.Need-element-write-self-2
+element-write-self-2 c = low (c .before .before .before .before .before .before .before .before .before .before)
+
+mul-self : tie.Need-mul-self
+mul-self c = let h = low (c .before .before .before .before .before .before .before .before .before .before) in omega arith
+
+element-write-self-3 : tie.Need-element-write-self-3
+element-write-self-3 c = low (c .before .before .before .before .before .before .before .before .before .before)
+
+mul-self-2 : tie.Need-mul-self-2
+mul-self-2 c = let h = low (c .before .before .before .before .before .before .before .before .before .before) in omega arith
+
+element-write-self-4 : tie.Need-element-write-self-4
+element-write-self-4 c = low (c .before .before .before .before .before .before .before .before .before .before)
+
+mul-constructor : tie.Need-mul-constructor
+mul-constructor c = let h = low (c .before .before .before .before .before .before .before .before .before .before .before) in omega arith
+
+element-set-from-constructor : tie.Need-element-set-from-constructor
+element-set-from-constructor c = low (c .before .before .before .before .before .before .before .before .before .before .before)
 
 same-length-2 : tie.Need-same-length-2
 same-length-2 c = search needs
 
 returns-3 : tie.Need-returns-3
+unfolding withLane
 returns-3 c =
-    let placed = c .before .before .before .before .before .before .before in
-    slice-fresh _ (placed .before .before .before .before .before .before .pre) _ _ _ _ _ _ _ (in-fresh placed) _ (c .before .before .before .before .before .new .ensures) _ _ (c .before .before .collect2 .ensures)
+    let told = c .before .before .before .before .before .before .before .before .before .before .before in
+    slice-taken (in-lane told) _ _ (c .before .before .before .before .before .before .before .before .before .start .ensures) _ (part-size _ _) _ _ (c .before .before .before .before .before .before .before .process-slice .ensures) (c .before .before .before .before .match2 .keys2) _ (rw (c .before .before .before .keep .ensures))
 
 pub process-slice-spec : {M : Type 1} → statement M
 process-slice-spec =
     tie.close
     (tie.spec
+    find-requires
+    find-requires-2
+    locate-requires
+    lowest-free-requires
     slice-place-requires
-    enum-known-place
-    enum-known-place-2
-    mul-constructor
-    element-copy-out-constructor
-    collect-requires
-    enum-known-place-3
-    new-requires
-    collect-requires-2
+    enum-told
     returns
+    mul-stored
+    element-copy-out-stored
+    start-requires
+    mul-size
+    mul-start
+    add-end
+    sub-process-slice
+    part-process-slice-start
+    part-process-slice-end
+    process-slice-requires
+    enum-known-answer
     same-length
     returns-2
+    keep-requires
+    mul-charge
+    element-copy-out-charge
+    sub-self
+    add-self
+    element-write-self
+    element-write-self-2
+    mul-self
+    element-write-self-3
+    mul-self-2
+    element-write-self-4
+    mul-constructor
+    element-set-from-constructor
     same-length-2
     returns-3)

@@ -11,20 +11,32 @@ mul-if1 c = search needs
 add-if1 : tie.Need-add-if1
 add-if1 c = search needs
 
+no-lane-requires : tie.Need-no-lane-requires
+no-lane-requires c κs = search needs
+
 returns : tie.Need-returns
 unfolding freshLane
-returns c = rw (lt-ltb _ _ (c .if1 .taken))
+returns c = rw (c .no-lane .ensures, lt-ltb _ _ (c .before .if1 .taken))
 
-lowest-free-requires : tie.Need-lowest-free-requires
-lowest-free-requires c κs = search needs
+no-lane-requires-2 : tie.Need-no-lane-requires-2
+no-lane-requires-2 c κs = search needs
 
 returns-2 : tie.Need-returns-2
 unfolding freshLane
-returns-2 c = rw (le-ltb _ _ (c .before .before .before .before .before .if1 .left), ← c .before .lowest-free .ensures, le-leb _ _ (c .if2 .taken))
+returns-2 c = rw (c .no-lane2 .ensures, le-ltb _ _ (c .before .before .before .if1 .left), ← c .before .before .before .before .before .before .pre .1, le-leb _ _ (c .before .if2 .taken))
 
 returns-3 : tie.Need-returns-3
 unfolding freshLane
-returns-3 c = rw (le-ltb _ _ (c .before .before .before .before .before .if1 .left), ← c .before .lowest-free .ensures, lt-leb _ _ (c .if2 .left))
+returns-3 c = rw (le-ltb _ _ (c .before .before .if1 .left), ← c .before .before .before .before .before .pre .1, lt-leb _ _ (c .if2 .left))
 
 pub fresh-spec : {M : Type 1} → statement M
-fresh-spec = tie.close (tie.spec mul-if1 add-if1 returns lowest-free-requires returns-2 returns-3)
+fresh-spec =
+    tie.close
+    (tie.spec
+    mul-if1
+    add-if1
+    no-lane-requires
+    returns
+    no-lane-requires-2
+    returns-2
+    returns-3)

@@ -9,58 +9,68 @@ use Rattle.receive_unreliable.proofs.ReceiveChannelUnreliable.message_p
 use Rattle.receive_unreliable.proofs.ReceiveChannelUnreliable.message_place.Tie as tie
 
 -- the stores hold
-fine : (c : tie.Then1) → (let a = c .before .before .before .args in storesHold (a .t1 .settings) (a .small) (a .lane) ≡ true)
+fine : (c : tie.Then1) → (let a = c .before .before .before .args in storesHold (a .self .settings) (a .small) (a .lane) ≡ true)
 fine c = sym (c .before .stores-hold .ensures) ∙ c .if1 .taken
 
 stores-hold-requires : tie.Need-stores-hold-requires
 stores-hold-requires c κs = search needs
 
+no-cell-requires : tie.Need-no-cell-requires
+no-cell-requires c κs = search needs
+
 returns : tie.Need-returns
 unfolding messageSpot messageRefusal
-returns c = rw (fine (c .before), lt-ltb _ _ (c .if2 .taken))
+returns c = rw (c .no-cell .ensures, fine (c .before .before), lt-ltb _ _ (c .before .if2 .taken))
 
 add-if3 : tie.Need-add-if3
 add-if3 c = search needs
 
+no-cell-requires-2 : tie.Need-no-cell-requires-2
+no-cell-requires-2 c κs = search needs
+
 returns-2 : tie.Need-returns-2
 unfolding messageSpot messageRefusal
-returns-2 c =
-    let short = c .before .before in
-    rw (fine (short .before), le-ltb _ _ (short .if2 .left), lt-ltb _ _ (c .if3 .taken))
+returns-2 c = let short = c .before .before .before .before in rw (c .no-cell2 .ensures, fine (short .before), le-ltb _ _ (short .if2 .left), lt-ltb _ _ (c .before .if3 .taken))
 
-lowest-free-requires : tie.Need-lowest-free-requires
-lowest-free-requires c κs = search needs
+no-cell-requires-3 : tie.Need-no-cell-requires-3
+no-cell-requires-3 c κs = search needs
 
 returns-3 : tie.Need-returns-3
 unfolding messageSpot messageRefusal
 returns-3 c =
-    let room = c .before .before .before .before .before in
-    let short = room .before .before in
-    rw (fine (short .before), le-ltb _ _ (short .if2 .left), le-ltb _ _ (room .if3 .left), ← c .before .lowest-free .ensures, le-leb _ _ (c .if4 .taken))
+    let room = c .before .before .before in
+    let short = room .before .before .before in
+    rw (c .no-cell3 .ensures, fine (short .before), le-ltb _ _ (short .if2 .left), le-ltb _ _ (room .if3 .left), ← short .before .before .before .before .pre .1, le-leb _ _ (c .before .if4 .taken))
 
 returns-4 : tie.Need-returns-4
 unfolding messageSpot messageRefusal
 returns-4 c =
-    let room = c .before .before .before .before .before in
-    let short = room .before .before in
-    rw (fine (short .before), le-ltb _ _ (short .if2 .left), le-ltb _ _ (room .if3 .left), ← c .before .lowest-free .ensures, lt-leb _ _ (c .if4 .left))
+    let room = c .before .before in
+    let short = room .before .before .before in
+    rw (fine (short .before), le-ltb _ _ (short .if2 .left), le-ltb _ _ (room .if3 .left), ← short .before .before .before .before .pre .1, lt-leb _ _ (c .if4 .left))
+
+no-cell-requires-4 : tie.Need-no-cell-requires-4
+no-cell-requires-4 c κs = search needs
 
 returns-5 : tie.Need-returns-5
 unfolding messageSpot messageRefusal
 returns-5 c =
-    let short : storesHold (c .before .before .before .args .t1 .settings) (c .before .before .before .args .small) (c .before .before .before .args .lane) ≡ false =
-    sym (c .before .stores-hold .ensures) ∙ c .if1 .left in
-    rw short
+    let a = c .before .before .before .before .args in
+    let short : storesHold (a .self .settings) (a .small) (a .lane) ≡ false = sym (c .before .before .stores-hold .ensures) ∙ c .before .if1 .left in
+    rw (c .no-cell4 .ensures, short)
 
 pub message-place-spec : {M : Type 1} → statement M
 message-place-spec =
     tie.close
     (tie.spec
     stores-hold-requires
+    no-cell-requires
     returns
     add-if3
+    no-cell-requires-2
     returns-2
-    lowest-free-requires
+    no-cell-requires-3
     returns-3
     returns-4
+    no-cell-requires-4
     returns-5)

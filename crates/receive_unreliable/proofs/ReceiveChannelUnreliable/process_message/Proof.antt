@@ -1,68 +1,97 @@
 -- `ReceiveChannelUnreliable::process_message` meets its contract: the cell has room for the message. Assumes nothing.
-use mathlib.Core.Path.{_≡_, sym, ap, _∙_}
+use Prim.Native.Nat.{_<_}
+use mathlib.Core.Path.{_≡_, refl}
 use native.Mathlib.Omega.{arith}
 use lib.ListN.{length}
-use Rattle.receive_unreliable.specs.Receive.{arrivalOf, messageSpot, cell, nowhere}
-use Rattle.receive_unreliable.specs.Steps.{messagePlaceOf}
+use Rattle.words.specs.Sizes.{SLOTS}
+use Rattle.receive_unreliable.specs.Receive.{ROWS, messageSpot, cell, withMessage}
 use Rattle.receive_unreliable.proofs.Valid.{cell-row}
 use Rattle.receive_unreliable.proofs.Spots.{spot-cell}
-use Rattle.receive_unreliable.proofs.Gives.{message-left, message-taken}
+use Rattle.receive_unreliable.proofs.Gives.{cell-told, message-left, message-taken}
 use borrow.Author.Needs.{needs}
 use Rattle.receive_unreliable.proofs.ReceiveChannelUnreliable.process_message.Statement.{statement}
 use Rattle.receive_unreliable.proofs.ReceiveChannelUnreliable.process_message.Tie as tie
 
--- the cell that the message goes to, or what it is told instead
-nowhere-to : (c : tie.After-place) → (let a = c .before .before .before .before .before .before .args in
-    messageSpot (a .self) (length (a .message .now)) (length (a .small .now)) (length (a .lanes .now)) ≡ nowhere (arrivalOf (c .place .given .0 .0)))
-nowhere-to c = sym (c .before .before .message-place .ensures) ∙ ap messagePlaceOf (c .place .given .1)
+abbrev start : tie.After-message-place → tie.Start
+start c = c .before .before .before .before .before .before .before .before
 
-in-cell : (c : tie.After-place2) → (let a = c .before .before .before .before .before .before .args in
-    messageSpot (a .self) (length (a .message .now)) (length (a .small .now)) (length (a .lanes .now)) ≡ cell (c .place2 .given .0 .0))
-in-cell c = sym (c .before .before .message-place .ensures) ∙ ap messagePlaceOf (c .place2 .given .1)
+-- the cell that the message goes to
+in-cell : (c : tie.After-enum-told) → (let a = start (c .before .before) .args in
+    messageSpot (a .t1) (length (a .message .now)) (length (a .small .now)) (length (a .lanes .now)) ≡ cell (c .before .before .message-place .result .cell))
+in-cell c = cell-told (c .before .before .message-place .result) _ (c .before .before .message-place .ensures) (c .enum-told .given .1)
+
+cell-low : (c : tie.After-enum-told) → c .before .before .message-place .result .cell < SLOTS
+cell-low c = let v = start (c .before .before) .pre in omega (arith, spot-cell _ v _ _ _ _ (in-cell c) .1 .low, v .settings .slots-most)
+
+row : (c : tie.After-enum-told) → start (c .before .before) .args .t1 .count < ROWS
+row c = let v = start (c .before .before) .pre in cell-row _ v _ _ (spot-cell _ v _ _ _ _ (in-cell c) .1)
+
+lowest-free-requires : tie.Need-lowest-free-requires
+lowest-free-requires c κs = search needs
 
 message-place-requires : tie.Need-message-place-requires
-message-place-requires c κs = search needs
+message-place-requires c κs = (c .before .before .before .before .before .before .before .pre, c .lowest-free .ensures)
 
-enum-known-place : tie.Need-enum-known-place
-enum-known-place c = search needs
-
-enum-known-place-2 : tie.Need-enum-known-place-2
-enum-known-place-2 c = search needs
-
-mul-write-bytes : tie.Need-mul-write-bytes
-mul-write-bytes c = let v = c .before .before .before .before .before .before .before .before .pre in omega (arith, spot-cell _ v _ _ _ _ (in-cell (c .before .before)) .1 .low, v .settings .slots-most)
-
-write-bytes-requires : tie.Need-write-bytes-requires
-write-bytes-requires c κs = let p = spot-cell _ (c .before .before .before .before .before .before .before .before .pre) _ _ _ _ (in-cell (c .before .before)) in omega (arith, p .0, p .1 .low, p .1 .short)
-
-with-message-requires : tie.Need-with-message-requires
-with-message-requires c κs =
-    let placed = c .before .before .before .before .before in
-    let v = placed .before .before .before .before .before .before .pre in
-    let p = spot-cell _ v _ _ _ _ (in-cell placed) .1 in
-    (v, (omega (arith, p .low, v .settings .slots-most)), cell-row _ v _ _ p, p .memory)
+enum-told : tie.Need-enum-told
+enum-told c = search needs
 
 returns : tie.Need-returns
-returns c = message-left _ (c .before .before .before .before .before .before .before .pre) _ _ _ _ (nowhere-to (c .before))
+returns c = message-left _ (start (c .before) .pre) _ _ _ (c .before .message-place .result) (c .before .message-place .ensures) (c .match .keys2)
+
+mul-write-bytes : tie.Need-mul-write-bytes
+mul-write-bytes c = let low = cell-low (c .before) in omega arith
+
+write-bytes-requires : tie.Need-write-bytes-requires
+write-bytes-requires c κs = let told = c .before in let p = spot-cell _ (start (told .before .before) .pre) _ _ _ _ (in-cell told) in omega (arith, p .0, p .1 .low, p .1 .short)
+
+add-self : tie.Need-add-self
+add-self c = let told = c .before .before .before .before in let v = start (told .before .before) .pre in omega (arith, spot-cell _ v _ _ _ _ (in-cell told) .1 .memory, v .settings .max-most)
+
+element-write-self : tie.Need-element-write-self
+element-write-self c = cell-low (c .before .before .before .before)
+
+cast-self : tie.Need-cast-self
+cast-self c = let told = c .before .before .before .before in omega (arith, spot-cell _ (start (told .before .before) .pre) _ _ _ _ (in-cell told) .1 .short)
+
+mul-self : tie.Need-mul-self
+mul-self c = let low = cell-low (c .before .before .before .before) in omega arith
+
+element-write-self-2 : tie.Need-element-write-self-2
+element-write-self-2 c = cell-low (c .before .before .before .before)
+
+cast-self-2 : tie.Need-cast-self-2
+cast-self-2 c = let low = cell-low (c .before .before .before .before) in omega arith
+
+element-write-self-3 : tie.Need-element-write-self-3
+element-write-self-3 c = row (c .before .before .before .before)
+
+add-self-2 : tie.Need-add-self-2
+add-self-2 c = let h = row (c .before .before .before .before) in omega arith
 
 same-length : tie.Need-same-length
 same-length c = search needs
 
 returns-2 : tie.Need-returns-2
-returns-2 c =
-    let placed = c .before .before .before .before .before .before in
-    message-taken _ (placed .before .before .before .before .before .before .pre) _ _ _ _ _ _ (in-cell placed) (c .before .before .before .write-bytes .ensures .1) (c .with-message .ensures)
+unfolding withMessage
+returns-2 c = let told = c .before .before .before .before in message-taken _ (start (told .before .before) .pre) _ _ _ _ _ _ (in-cell told) (c .before .before .write-bytes .ensures .1) refl
 
 pub process-message-spec : {M : Type 1} → statement M
 process-message-spec =
     tie.close
     (tie.spec
+    lowest-free-requires
     message-place-requires
-    enum-known-place
-    enum-known-place-2
+    enum-told
+    returns
     mul-write-bytes
     write-bytes-requires
-    with-message-requires
-    returns
+    add-self
+    element-write-self
+    cast-self
+    mul-self
+    element-write-self-2
+    cast-self-2
+    element-write-self-3
+    add-self-2
     same-length
     returns-2)

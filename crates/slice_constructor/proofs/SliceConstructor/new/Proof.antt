@@ -10,7 +10,7 @@ use Rattle.slice_constructor.specs.declared.Begin.the-variants as begin
 use Rattle.slice_constructor.specs.declared.Begun.{Begun}
 use Rattle.slice_constructor.specs.Collect.{blankOf, beginNumber, beginRefusal, BeginGives}
 use Rattle.slice_constructor.proofs.Valid.{blank-valid}
-use Rattle.slice_constructor.proofs.Unique.{numbered-above}
+use Rattle.words.proofs.Unique.{numbered-above}
 use Rattle.slice_constructor.proofs.SliceConstructor.new.Statement.{statement}
 use Rattle.slice_constructor.proofs.SliceConstructor.new.Tie as tie
 

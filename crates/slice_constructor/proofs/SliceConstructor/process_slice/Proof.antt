@@ -13,7 +13,7 @@ use Rattle.slice_constructor.specs.declared.Collect.the-variants as coll
 use Rattle.slice_constructor.specs.Collect.{Valid, collectRefusal, taken, laneTaken, collectOf, answerOf, CollectGives}
 use Rattle.slice_constructor.specs.Steps.{judgedNumber}
 use Rattle.slice_constructor.proofs.Valid.{good, taken-valid, taken-num}
-use Rattle.slice_constructor.proofs.Unique.{numbered-above}
+use Rattle.words.proofs.Unique.{numbered-above}
 use Rattle.slice_constructor.proofs.SliceConstructor.process_slice.Statement.{statement}
 use Rattle.slice_constructor.proofs.SliceConstructor.process_slice.Tie as tie
 
