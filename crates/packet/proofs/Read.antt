@@ -16,9 +16,14 @@ use Rattle.packet_slice.specs.Slice as l
 use Rattle.packet_slice.specs.Write as lw
 use Rattle.packet_slice.specs.declared.SliceRead.{SliceRead}
 use Rattle.packet_ack.specs.Ack as a
+use Rattle.packet_ack.specs.declared.Range.{Range}
 use Rattle.packet_ack.specs.Write as aw
-use Rattle.packet_ack.specs.declared.AckRead.{AckRead}
-use Rattle.packet.specs.Packet.{Packet, smallReliable, smallUnreliable, reliableSlice, unreliableSlice, ack, mapped, body, packet, holds, judged, leaves, messagesOf, rangesOf, told, decodedOf, DecodeGives, decodedSmall, decodedSlice, decodedAck}
+use Rattle.packet_ack.specs.Steps as steps
+use Rattle.packet_ack.specs.Steps.{filledFrom}
+use Rattle.packet_ack.specs.declared.Found as found
+use Rattle.packet.specs.Packet.{Packet, smallReliable, smallUnreliable, reliableSlice, unreliableSlice, ack, mapped, body, packet, holds, judged, leaves, messagesOf, rangesOf, told, decodedOf, decodedSmall, decodedSlice, decodedAck}
+use Rattle.packet.specs.Steps.{FindGives}
+use Rattle.packet.specs.declared.Found.{Found}
 use Rattle.packet.specs.declared.Decoded.{Decoded}
 
 abbrev pub smallKind : Bool → s.Small → Packet
@@ -31,7 +36,7 @@ sliceKind false = unreliableSlice
 
 -- ---- a table that a packet does not fill stays as it is
 
-kept : (f : Packet → List ℕ → List ℕ) (p : Packet) (next m n : ℕ) (t : List ℕ) → f p t ≡ t → t ≡ leaves f (judged (ok p next) m n) t
+kept : {A : Type 0} (f : Packet → List A → List A) (p : Packet) (next m n : ℕ) (t : List A) → f p t ≡ t → t ≡ leaves f (judged (ok p next) m n) t
 unfolding judged
 kept f p next m n t e = go (holds p m n)
   where
@@ -71,7 +76,7 @@ small-table false (ok p next) m n t = go (leb (s.RECORD * length (p .messages)) 
     go true = refl
     go false = refl
 
-small-rest : (ids : Bool) (r : Res s.Small) (m n : ℕ) (t : List ℕ) → t ≡ leaves rangesOf (judged (mapped (smallKind ids) r) m n) t
+small-rest : (ids : Bool) (r : Res s.Small) (m n : ℕ) (t : List Range) → t ≡ leaves rangesOf (judged (mapped (smallKind ids) r) m n) t
 unfolding judged
 small-rest true (fault e) m n t = refl
 small-rest false (fault e) m n t = refl
@@ -87,8 +92,8 @@ slice-told false (fault e) m n = refl
 slice-told true (ok p next) m n = refl
 slice-told false (ok p next) m n = refl
 
-slice-rest : (f : Packet → List ℕ → List ℕ) → ((reliable : Bool) (p : l.Slice) (t : List ℕ) → f (sliceKind reliable p) t ≡ t)
-    → (reliable : Bool) (r : Res l.Slice) (m n : ℕ) (t : List ℕ) → t ≡ leaves f (judged (mapped (sliceKind reliable) r) m n) t
+slice-rest : {A : Type 0} (f : Packet → List A → List A) → ((reliable : Bool) (p : l.Slice) (t : List A) → f (sliceKind reliable p) t ≡ t)
+    → (reliable : Bool) (r : Res l.Slice) (m n : ℕ) (t : List A) → t ≡ leaves f (judged (mapped (sliceKind reliable) r) m n) t
 unfolding judged
 slice-rest f h true (fault e) m n t = refl
 slice-rest f h false (fault e) m n t = refl
@@ -99,7 +104,7 @@ messages-rest : (reliable : Bool) (p : l.Slice) (t : List ℕ) → messagesOf (s
 messages-rest true p t = refl
 messages-rest false p t = refl
 
-ranges-rest : (reliable : Bool) (p : l.Slice) (t : List ℕ) → rangesOf (sliceKind reliable p) t ≡ t
+ranges-rest : (reliable : Bool) (p : l.Slice) (t : List Range) → rangesOf (sliceKind reliable p) t ≡ t
 ranges-rest true p t = refl
 ranges-rest false p t = refl
 
@@ -108,16 +113,16 @@ ranges-rest false p t = refl
 ack-told : (r : Res a.Ack) (m n : ℕ) → decodedAck (a.told (a.judged r n)) ≡ told (judged (mapped ack r) m n)
 unfolding a.judged judged
 ack-told (fault e) m n = refl
-ack-told (ok p next) m n = go (leb (a.RECORD * length (p .ranges)) n)
+ack-told (ok p next) m n = go (leb (length (p .ranges)) n)
   where
     go : (b : Bool) → decodedAck (a.told (pick b (ok p next) (fault 11))) ≡ told (pick b (ok (ack p) next) (fault 11))
     go true = refl
     go false = refl
 
-ack-table : (r : Res a.Ack) (m n : ℕ) (t : List ℕ) → a.tabled (a.judged r n) t ≡ leaves rangesOf (judged (mapped ack r) m n) t
+ack-table : (r : Res a.Ack) (m n : ℕ) (t : List Range) → a.tabled (a.judged r n) t ≡ leaves rangesOf (judged (mapped ack r) m n) t
 unfolding a.judged a.tabled judged
 ack-table (fault e) m n t = refl
-ack-table (ok p next) m n t = go (leb (a.RECORD * length (p .ranges)) n)
+ack-table (ok p next) m n t = go (leb (length (p .ranges)) n)
   where
     go : (b : Bool) → a.tabled (pick b (ok p next) (fault 11)) t ≡ leaves rangesOf (pick b (ok (ack p) next) (fault 11)) t
     go true = refl
@@ -149,54 +154,61 @@ module _ (bs : List ℕ) (h : 1 ≤ length bs) where
   unfolding body
   ack-is e = packet-is ∙ simp e
 
--- ---- and in the terms in which the code meets it: the answer and the two tables
+-- ---- and in the terms in which the code meets it: what is found, and the table of messages
 
-module _ (bs ms rs : List ℕ) where
+module _ (bs ms : List ℕ) (n : ℕ) where
+  -- where the whole is a result r, what is found is what r says
+  by-result : {ms' : List ℕ} {f : Found} (r : Res Packet) → packet bs 0 ≡ r
+      → decodedOf (f .answer) ≡ told (judged r (length ms) n) → ms' ≡ leaves messagesOf (judged r (length ms) n) ms → f .count ≤ n
+      → ((t : List Range) → filledFrom (f .count) bs (f .top) t ≡ leaves rangesOf (judged r (length ms) n) t)
+      → FindGives bs ms n ms' f
+  by-result r e a m w g = record { answer = rw e a; messages = rw e m; within = w; fills = λ t. rw e (g t) }
+
+  -- and where it has no range
+  by-none : {ms' : List ℕ} {f : Found} {d : Decoded} (r : Res Packet) → packet bs 0 ≡ r → (f .answer ≡ d) × (f .count ≡ 0)
+      → decodedOf d ≡ told (judged r (length ms) n) → ms' ≡ leaves messagesOf (judged r (length ms) n) ms
+      → ((t : List Range) → t ≡ leaves rangesOf (judged r (length ms) n) t)
+      → FindGives bs ms n ms' f
+  unfolding filledFrom
+  by-none r e u a m g = by-result r e (ap decodedOf (u .0) ∙ a) m (omega (arith, u .1)) (λ t. rw (u .1) (g t))
+
   -- no type byte
-  pub no-type : {d : Decoded} → length bs < 1 → decodedOf d ≡ fault 1 → DecodeGives bs ms rs ms rs d
+  pub no-type : {f : Found} {d : Decoded} → length bs < 1 → decodedOf d ≡ fault 1 → (f .answer ≡ d) × (f .count ≡ 0) → FindGives bs ms n ms f
   unfolding packet byte judged
-  no-type h e = record { answer = e ∙ sym (simp (le-ltb 0 (length bs) (omega arith))); messages = simp (le-ltb 0 (length bs) (omega arith)); ranges = simp (le-ltb 0 (length bs) (omega arith)) }
+  no-type h e u = by-none (fault 1) (simp (le-ltb 0 (length bs) (omega arith))) u e refl (λ t. refl)
 
   module _ (h : 1 ≤ length bs) where
-    -- where the whole is a result r, the answer and the tables are those of r
-    by-result : {ms' rs' : List ℕ} {d : Decoded} (r : Res Packet) → packet bs 0 ≡ r
-        → decodedOf d ≡ told (judged r (length ms) (length rs))
-        → ms' ≡ leaves messagesOf (judged r (length ms) (length rs)) ms
-        → rs' ≡ leaves rangesOf (judged r (length ms) (length rs)) rs
-        → DecodeGives bs ms rs ms' rs' d
-    by-result r e a m n = record { answer = rw e a; messages = rw e m; ranges = rw e n }
-
-    pub as-small : (ids : Bool) → getD bs 0 0 ≡ sw.typeByte ids → (x : SmallRead) {ms' : List ℕ} {d : Decoded}
+    pub as-small : (ids : Bool) → getD bs 0 0 ≡ sw.typeByte ids → (x : SmallRead) {ms' : List ℕ} {d : Decoded} {f : Found}
         → (s.readOf x ≡ s.told (s.judged (s.small ids bs 1) (length ms))) × (ms' ≡ s.tabled (s.judged (s.small ids bs 1) (length ms)) ms)
-        → decodedOf d ≡ decodedSmall ids (s.readOf x) → DecodeGives bs ms rs ms' rs d
-    as-small ids e x p q =
-        by-result (mapped (smallKind ids) (s.small ids bs 1)) (small-is bs h ids e)
-        (q ∙ ap (decodedSmall ids) (p .0) ∙ small-told ids (s.small ids bs 1) (length ms) (length rs))
-        (p .1 ∙ small-table ids (s.small ids bs 1) (length ms) (length rs) ms)
-        (small-rest ids (s.small ids bs 1) (length ms) (length rs) rs)
+        → decodedOf d ≡ decodedSmall ids (s.readOf x) → (f .answer ≡ d) × (f .count ≡ 0) → FindGives bs ms n ms' f
+    as-small ids e x p q u =
+        by-none (mapped (smallKind ids) (s.small ids bs 1)) (small-is bs h ids e) u
+        (q ∙ ap (decodedSmall ids) (p .0) ∙ small-told ids (s.small ids bs 1) (length ms) n)
+        (p .1 ∙ small-table ids (s.small ids bs 1) (length ms) n ms)
+        (small-rest ids (s.small ids bs 1) (length ms) n)
 
-    pub as-slice : (reliable : Bool) → getD bs 0 0 ≡ lw.typeByte reliable → (x : SliceRead) {d : Decoded}
-        → l.readOf x ≡ l.slice reliable bs 1 → decodedOf d ≡ decodedSlice reliable (l.readOf x) → DecodeGives bs ms rs ms rs d
-    as-slice reliable e x p q =
-        by-result (mapped (sliceKind reliable) (l.slice reliable bs 1)) (slice-is bs h reliable e)
-        (q ∙ ap (decodedSlice reliable) p ∙ slice-told reliable (l.slice reliable bs 1) (length ms) (length rs))
-        (slice-rest messagesOf messages-rest reliable (l.slice reliable bs 1) (length ms) (length rs) ms)
-        (slice-rest rangesOf ranges-rest reliable (l.slice reliable bs 1) (length ms) (length rs) rs)
+    pub as-slice : (reliable : Bool) → getD bs 0 0 ≡ lw.typeByte reliable → (x : SliceRead) {d : Decoded} {f : Found}
+        → l.readOf x ≡ l.slice reliable bs 1 → decodedOf d ≡ decodedSlice reliable (l.readOf x) → (f .answer ≡ d) × (f .count ≡ 0) → FindGives bs ms n ms f
+    as-slice reliable e x p q u =
+        by-none (mapped (sliceKind reliable) (l.slice reliable bs 1)) (slice-is bs h reliable e) u
+        (q ∙ ap (decodedSlice reliable) p ∙ slice-told reliable (l.slice reliable bs 1) (length ms) n)
+        (slice-rest messagesOf messages-rest reliable (l.slice reliable bs 1) (length ms) n ms)
+        (slice-rest rangesOf ranges-rest reliable (l.slice reliable bs 1) (length ms) n)
 
-    pub as-ack : getD bs 0 0 ≡ aw.typeByte → (x : AckRead) {rs' : List ℕ} {d : Decoded}
-        → (a.readOf x ≡ a.told (a.judged (a.ack bs 1) (length rs))) × (rs' ≡ a.tabled (a.judged (a.ack bs 1) (length rs)) rs)
-        → decodedOf d ≡ decodedAck (a.readOf x) → DecodeGives bs ms rs ms rs' d
-    as-ack e x p q =
+    pub as-ack : getD bs 0 0 ≡ aw.typeByte → (x : found.Found) {f : Found} → steps.FindGives bs 1 n x
+        → (decodedOf (f .answer) ≡ decodedAck (a.readOf (x .answer))) × (f .top ≡ x .top) × (f .count ≡ x .count) → FindGives bs ms n ms f
+    as-ack e x p u =
         by-result (mapped ack (a.ack bs 1)) (ack-is bs h e)
-        (q ∙ ap decodedAck (p .0) ∙ ack-told (a.ack bs 1) (length ms) (length rs))
-        (ack-rest (a.ack bs 1) (length ms) (length rs) ms)
-        (p .1 ∙ ack-table (a.ack bs 1) (length ms) (length rs) rs)
+        (u .0 ∙ ap decodedAck (p .answer) ∙ ack-told (a.ack bs 1) (length ms) n)
+        (ack-rest (a.ack bs 1) (length ms) n ms)
+        (omega (arith, u .2, p .within))
+        (λ t. rw (u .1, u .2) (p .fills t ∙ ack-table (a.ack bs 1) (length ms) n t))
 
     -- a type byte above 4
-    pub no-kind : {d : Decoded} → (getD bs 0 0 ≡ 0 → ⊥) → (getD bs 0 0 ≡ 1 → ⊥) → (getD bs 0 0 ≡ 2 → ⊥) → (getD bs 0 0 ≡ 3 → ⊥) → (getD bs 0 0 ≡ 4 → ⊥)
-        → decodedOf d ≡ fault 6 → DecodeGives bs ms rs ms rs d
+    pub no-kind : {f : Found} {d : Decoded} → (getD bs 0 0 ≡ 0 → ⊥) → (getD bs 0 0 ≡ 1 → ⊥) → (getD bs 0 0 ≡ 2 → ⊥) → (getD bs 0 0 ≡ 3 → ⊥) → (getD bs 0 0 ≡ 4 → ⊥)
+        → decodedOf d ≡ fault 6 → (f .answer ≡ d) × (f .count ≡ 0) → FindGives bs ms n ms f
     unfolding body judged
-    no-kind n0 n1 n2 n3 n4 q = by-result (fault 6) is q refl refl
+    no-kind n0 n1 n2 n3 n4 q u = by-none (fault 6) is u q refl (λ t. refl)
       where
         is : packet bs 0 ≡ fault 6
         is = packet-is bs h ∙ none

@@ -32,12 +32,15 @@ use Rattle.packet_slice.proofs.Judge.{accepted}
 use Rattle.packet_slice.proofs.Written.{sayable}
 use Rattle.packet_slice.proofs.Theorems as slice
 use Rattle.packet_ack.specs.Ack as a
+use Rattle.packet_ack.specs.declared.Range.{Range}
 use Rattle.packet_ack.specs.Write as aw
 use Rattle.packet_ack.specs.Layout.{AckSpelt}
 use Rattle.packet_ack.specs.Layout as alayout
 use Rattle.packet_ack.proofs.Theorems as acks
 use Rattle.packet.specs.Packet.{Packet, smallReliable, smallUnreliable, reliableSlice, unreliableSlice, ack, mapped, body, packet, Told, packetOf, decodedOf, DecodeGives}
 use Rattle.packet.specs.declared.Packet as code
+use Rattle.packet.specs.Steps.{ReadGives}
+use Rattle.packet.specs.declared.DecodedTable.{DecodedTable}
 use Rattle.packet.specs.declared.Decoded.{Decoded}
 use Rattle.packet.specs.declared.Decoded.the-variants as decoded
 use Rattle.packet.specs.declared.Packet.the-variants as kind
@@ -136,16 +139,16 @@ none-refused-of l c k {next} h = go (eqb (refusal l) 0) refl h
     go false q h = let z : _≡_ {A = ℕ} 0 1 = cc in absurd (omega arith)
 
 -- a packet that the writer takes is spelt by what it writes, as long as it answers
-abbrev pub Written : code.Packet → List ℕ → List ℕ → List ℕ → ℕ → Type 0
+abbrev pub Written : code.Packet → List ℕ → List Range → List ℕ → ℕ → Type 0
 Written p ms rs src len = Spelt (saidBy p ms rs src) (bytesOf p ms rs src) × (len ≡ length (bytesOf p ms rs src))
 
-module _ (ms rs src : List ℕ) (n : ℕ) {len : ℕ} where
+module _ (ms : List ℕ) (rs : List Range) (src : List ℕ) (n : ℕ) {len : ℕ} where
   ack-written : (seq k : ℕ) → aw.putAck seq rs k 0 n ≡ done len
       → AckSpelt (record { sequence = seq; ranges = aw.listed rs 0 k }) (aw.ackBytes seq (aw.listed rs 0 k)) × (len ≡ length (aw.ackBytes seq (aw.listed rs 0 k)))
   unfolding aw.putAck aw.ackRefusal All
   ack-written seq k e =
       let r = none-refused-of (
-      (ltb (length rs) (a.RECORD * k), 10) ∷
+      (ltb (length rs) k, 10) ∷
       (leb LIMIT seq, 13) ∷
       (not (all aw.sayable (aw.listed rs 0 k)), 13) ∷
       (not (aw.rising (aw.listed rs 0 k)), 5) ∷
@@ -204,13 +207,21 @@ decoded-undone (decoded.Whole p used) = ap (λ (x : code.Packet). decoded.Whole 
 decoded-undone (decoded.Refused e) = ap decoded.Refused (refusal-undone e)
 
 -- the promise of `from_bytes` admits one answer and one content of each table
-module _ (bs ms rs : List ℕ) where
-  pub one-decoded : {m m' r r' : List ℕ} (d d' : Decoded) → DecodeGives bs ms rs m r d → DecodeGives bs ms rs m' r' d' → (d ≡ d') × (m ≡ m') × (r ≡ r')
+module _ (bs ms : List ℕ) (rs : List Range) where
+  pub one-decoded : {m m' : List ℕ} {r r' : List Range} (d d' : Decoded) → DecodeGives bs ms rs m r d → DecodeGives bs ms rs m' r' d' → (d ≡ d') × (m ≡ m') × (r ≡ r')
   one-decoded d d' x y =
       (told-apart decodedOf decodedFrom decoded-undone d d' (x .answer ∙ sym (y .answer)), x .messages ∙ sym (y .messages), x .ranges ∙ sym (y .ranges))
 
--- and that of `to_bytes` one answer and one content of the lent bytes
-module _ (p : code.Packet) (ms rs src out : List ℕ) where
+-- that of `decode` too, with the table by value
+module _ (bs ms : List ℕ) (rs : List Range) (n : ℕ) where
+  pub one-table : {m m' : List ℕ} (d d' : DecodedTable) → ReadGives bs ms rs n m d → ReadGives bs ms rs n m' d' → (d ≡ d') × (m ≡ m')
+  one-table d d' x y =
+      let a : d .answer ≡ d' .answer = told-apart decodedOf decodedFrom decoded-undone (d .answer) (d' .answer) (x .answer ∙ sym (y .answer)) in
+      let r : d .ranges ≡ d' .ranges = x .ranges ∙ sym (y .ranges) in
+      (λ i. record { answer = a i; ranges = r i }, x .messages ∙ sym (y .messages))
+
+-- and that of `to_bytes` one answer and one content of the lent bytes; `encode` promises the same of the records that are lent
+module _ (p : code.Packet) (ms : List ℕ) (rs : List Range) (src out : List ℕ) where
   pub one-encoded : {o o' : List ℕ} (r r' : Put) → putOf r ≡ encoded p ms rs src (length out) → putOf r' ≡ encoded p ms rs src (length out)
       → o ≡ left (putOf r) 0 (bytesOf p ms rs src) out → o' ≡ left (putOf r') 0 (bytesOf p ms rs src) out → (r ≡ r') × (o ≡ o')
   one-encoded r r' e e' l l' = (octets.one-put r r' e e', octets.one-left 0 (bytesOf p ms rs src) out r r' e e' l l')

@@ -11,6 +11,7 @@ use Rattle.packet_slice.specs.Write.{SliceSaid, sliceSaid}
 use Rattle.packet_slice.specs.Slice.{sliceOf}
 use Rattle.packet_slice.specs.Layout.{SliceSpelt, Payload}
 use Rattle.packet_ack.specs.Ack as a
+use Rattle.packet_ack.specs.declared.Range.{Range}
 use Rattle.packet_ack.specs.Write as aw
 use Rattle.packet_ack.specs.Layout.{AckSpelt}
 use Rattle.packet.specs.declared.Packet as code
@@ -39,7 +40,7 @@ saidIn s (ack p) = ack p
 
 -- ---- what a packet says that is to be written, with its messages and ranges in tables and its payloads in a store
 
-abbrev pub saidBy : code.Packet → List ℕ → List ℕ → List ℕ → Said
+abbrev pub saidBy : code.Packet → List ℕ → List Range → List ℕ → Said
 saidBy (kind.SmallReliable p) ms rs src =
     smallReliable (record { sequence = p .sequence .0; channel = p .«channel_id»; messages = map (saidOf true src) (s.listed ms 0 (p .count)) })
 saidBy (kind.SmallUnreliable p) ms rs src =

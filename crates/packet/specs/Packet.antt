@@ -12,6 +12,7 @@ use Rattle.octets.specs.Reader.{Res, ok, fault, then, Reader, _>>=_, byte}
 use Rattle.packet_small.specs.Small as s
 use Rattle.packet_slice.specs.Slice as l
 use Rattle.packet_ack.specs.Ack as a
+use Rattle.packet_ack.specs.declared.Range.{Range}
 use Rattle.packet.specs.declared.Packet as code
 use Rattle.packet.specs.declared.Packet.the-variants as kind
 use Rattle.packet.specs.declared.Decoded.{Decoded}
@@ -56,13 +57,13 @@ packet = do
 
 -- ---- what the reader answers, and what it leaves of the lent tables
 
--- whether tables of m words for messages and of n words for ranges hold its entries
+-- whether tables of m words for messages and of n records for ranges hold its entries
 abbrev pub holds : Packet → ℕ → ℕ → Bool
 holds (smallReliable p) m n = leb (s.RECORD * length (p .messages)) m
 holds (smallUnreliable p) m n = leb (s.RECORD * length (p .messages)) m
 holds (reliableSlice p) m n = true
 holds (unreliableSlice p) m n = true
-holds (ack p) m n = leb (a.RECORD * length (p .ranges)) n
+holds (ack p) m n = leb (length (p .ranges)) n
 
 -- a good packet with more entries than its lent table: 11, after 1 to 6
 unfoldable pub judged : Res Packet → ℕ → ℕ → Res Packet
@@ -78,15 +79,15 @@ messagesOf (unreliableSlice p) t = t
 messagesOf (ack p) t = t
 
 -- the lent table of ranges afterwards
-abbrev pub rangesOf : Packet → List ℕ → List ℕ
+abbrev pub rangesOf : Packet → List Range → List Range
 rangesOf (smallReliable p) t = t
 rangesOf (smallUnreliable p) t = t
 rangesOf (reliableSlice p) t = t
 rangesOf (unreliableSlice p) t = t
-rangesOf (ack p) t = splice 0 (a.words (p .ranges)) t
+rangesOf (ack p) t = splice 0 (p .ranges) t
 
 -- a refusal changes no entry of any table
-abbrev pub leaves : (Packet → List ℕ → List ℕ) → Res Packet → List ℕ → List ℕ
+abbrev pub leaves : {A : Type 0} → (Packet → List A → List A) → Res Packet → List A → List A
 leaves f (ok p next) t = f p t
 leaves f (fault e) t = t
 
@@ -134,7 +135,7 @@ decodedAck r = mapped ack r
 -- ---- what reading gives, all of it
 
 -- with the tables ms and rs lent for messages and ranges: the answer, and what is in them afterwards
-pub record DecodeGives (bs ms rs ms' rs' : List ℕ) (d : Decoded) : Type 0 where
+pub record DecodeGives (bs ms : List ℕ) (rs : List Range) (ms' : List ℕ) (rs' : List Range) (d : Decoded) : Type 0 where
   pub answer : decodedOf d ≡ told (judged (packet bs 0) (length ms) (length rs))
   pub messages : ms' ≡ leaves messagesOf (judged (packet bs 0) (length ms) (length rs)) ms
   pub ranges : rs' ≡ leaves rangesOf (judged (packet bs 0) (length ms) (length rs)) rs

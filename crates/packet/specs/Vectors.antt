@@ -1,18 +1,21 @@
--- The marked cases of document 01 that concern the wire, as one table, and one fact over all its rows. Assumes nothing.
-use Prim.Native.Nat.{ℕ, _+_, _*_}
+-- The marked cases of document 01 as one table, and one fact over all its rows. Assumes nothing.
+use Prim.Native.Nat.{ℕ, zero, suc, _+_, _*_}
 use mathlib.Core.Path.{_≡_, refl}
 use mathlib.Core.Bool.{Bool, true, false, not}
 use mathlib.Core.List.{List, [], _∷_, _++_, map, reverse}
-use lib.Dec.{eqb}
-use lib.ListN.{length, take, drop}
+use lib.Dec.{eqb, leb}
+use lib.ListN.{length, take, drop, replicate}
 use Rattle.words.specs.Choice.{pick, refusal}
 use Rattle.words.specs.Lists.{all}
+use Rattle.words.specs.Sizes.{SLICE_SIZE}
+use Rattle.words.specs.Pieces.{piecesOf, pieceOf}
 use Rattle.octets.specs.Reader.{Res, ok, fault, byte, pair, bytes, need}
 use Rattle.octets.specs.Varint.{var, more, formLen, run, varBytes, tagged, lowBytes, varLen, runBytes}
 use Rattle.packet_small.specs.Small as s
 use Rattle.packet_small.specs.Write as sw
 use Rattle.packet_slice.specs.Slice as l
 use Rattle.packet_ack.specs.Ack as a
+use Rattle.packet_ack.specs.declared.Range.{Range}
 use Rattle.packet_ack.specs.Write as aw
 use Rattle.packet.specs.Packet.{Packet, smallReliable, smallUnreliable, reliableSlice, unreliableSlice, ack, body, packet}
 
@@ -23,23 +26,37 @@ abbrev pub number : Res ℕ → List ℕ
 number (ok v next) = v ∷ next ∷ []
 number (fault e) = e ∷ []
 
+-- start and end of each range
+unfoldable pub ends : List Range → List ℕ
+ends [] = []
+ends (r ∷ rs) = r .start ∷ r .end ∷ ends rs
+
 -- a packet: its type, its numbers, its table and the bytes used; or the refusal's number alone
 abbrev pub numbers : Packet → List ℕ
 numbers (smallReliable p) = 0 ∷ p .sequence ∷ p .channel ∷ s.words (p .messages)
 numbers (smallUnreliable p) = 1 ∷ p .sequence ∷ p .channel ∷ s.words (p .messages)
 numbers (reliableSlice p) = 2 ∷ p .sequence ∷ []
 numbers (unreliableSlice p) = 3 ∷ p .sequence ∷ []
-numbers (ack p) = 4 ∷ p .sequence ∷ a.words (p .ranges)
+numbers (ack p) = 4 ∷ p .sequence ∷ ends (p .ranges)
 
 abbrev pub reading : Res Packet → List ℕ
 reading (ok p used) = numbers p ++ (used ∷ [])
 reading (fault e) = e ∷ []
 
+-- 0 to n - 1
+abbrev pub upTo : ℕ → List ℕ
+upTo zero = []
+upTo (suc n) = upTo n ++ n ∷ []
+
+-- how a message of n bytes goes: 0 and its length if it is small, else 1 and the lengths of its pieces
+abbrev pub goes : ℕ → List ℕ
+goes n = pick (leb n SLICE_SIZE) (0 ∷ n ∷ []) (1 ∷ map (λ i. length (pieceOf (replicate n 0) i)) (upTo (piecesOf n)))
+
 pub record Row : Type 0 where
   pub got : List ℕ
   pub want : List ℕ
 
-abbrev range : ℕ → ℕ → a.Range
+abbrev range : ℕ → ℕ → Range
 range start end = record { start = start; end = end }
 
 abbrev said : ℕ → List ℕ → sw.Said
@@ -66,8 +83,8 @@ rows =
     -- ack seq 0, ranges 0..1 and 2..3; were the upper start 1, answer 5, writing and reading
     ∷ record { got = aw.ackBytes 0 (range 0 1 ∷ range 2 3 ∷ []); want = 0x04 ∷ 0x00 ∷ 0x02 ∷ 0x00 ∷ 0x01 ∷ 0x00 ∷ 0x00 ∷ [] }
     ∷ record { got = reading (packet (0x04 ∷ 0x00 ∷ 0x02 ∷ 0x00 ∷ 0x01 ∷ 0x00 ∷ 0x00 ∷ []) 0); want = 4 ∷ 0 ∷ 0 ∷ 1 ∷ 2 ∷ 3 ∷ 7 ∷ [] }
-    ∷ record { got = aw.ackRefusal 0 (0 ∷ 1 ∷ 2 ∷ 3 ∷ []) 2 0 7 ∷ []; want = 0 ∷ [] }
-    ∷ record { got = aw.ackRefusal 0 (0 ∷ 1 ∷ 1 ∷ 3 ∷ []) 2 0 7 ∷ []; want = 5 ∷ [] }
+    ∷ record { got = aw.ackRefusal 0 (range 0 1 ∷ range 2 3 ∷ []) 2 0 7 ∷ []; want = 0 ∷ [] }
+    ∷ record { got = aw.ackRefusal 0 (range 0 1 ∷ range 1 3 ∷ []) 2 0 7 ∷ []; want = 5 ∷ [] }
     ∷ record { got = reading (packet (0x04 ∷ 0x00 ∷ 0x02 ∷ 0x01 ∷ 0x01 ∷ 0x00 ∷ 0x00 ∷ []) 0); want = 5 ∷ [] }
     -- SmallReliable seq 3, channel 1, (0, "A"), (1, empty)
     ∷ record {
@@ -78,6 +95,10 @@ rows =
       got = reading (packet (0x00 ∷ 0x03 ∷ 0x01 ∷ 0x00 ∷ 0x02 ∷ 0x00 ∷ 0x01 ∷ 0x41 ∷ 0x01 ∷ 0x00 ∷ []) 0);
       want = 0 ∷ 3 ∷ 1 ∷ 0 ∷ 7 ∷ 1 ∷ 1 ∷ 10 ∷ 0 ∷ 10 ∷ [];
     }
+    -- 1,200 bytes is small; 1,201 is pieces of 1,200 and 1; 2,401 is three pieces
+    ∷ record { got = goes 1200; want = 0 ∷ 1200 ∷ [] }
+    ∷ record { got = goes 1201; want = 1 ∷ 1200 ∷ 1 ∷ [] }
+    ∷ record { got = goes 2401; want = 1 ∷ 1200 ∷ 1200 ∷ 1 ∷ [] }
     ∷ []
 
 -- ---- and it is so
@@ -92,5 +113,5 @@ abbrev pub right : Row → Bool
 right r = same (r .got) (r .want)
 
 pub vectors : all right rows ≡ true
-unfolding rows same all need byte pair bytes var more formLen run varBytes tagged lowBytes varLen runBytes body packet s.message s.messages s.small s.words sw.messageBytes sw.messagesBytes sw.headBytes sw.smallBytes a.sized a.lower a.lowers a.ack a.words aw.lowersBytes aw.fallingBytes aw.ackBytes aw.listed aw.risingAfter aw.rising aw.ackRefusal
+unfolding rows same all need byte pair bytes var more formLen run varBytes tagged lowBytes varLen runBytes body packet s.message s.messages s.small s.words sw.messageBytes sw.messagesBytes sw.headBytes sw.smallBytes a.sized a.lower a.lowers a.ack ends aw.lowersBytes aw.fallingBytes aw.ackBytes aw.listed aw.risingAfter aw.rising aw.ackRefusal
 vectors = refl

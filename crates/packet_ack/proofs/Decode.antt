@@ -1,4 +1,4 @@
--- `ack` at each of its cases, and what the answer and the table are then. Assumes nothing.
+-- `ack` at each of its cases, and what is found then. Assumes nothing.
 use Prim.Native.Nat.{ℕ, zero, suc, _+_, _*_, _/_, _-_, _≤_, _<_}
 use mathlib.Core.Path.{_≡_, refl, sym, ap, _∙_, subst}
 use mathlib.Core.List.{List, _∷_, reverse}
@@ -15,9 +15,10 @@ use Rattle.packet_ack.specs.declared.Highest.{Highest}
 use Rattle.packet_ack.specs.declared.Highest.the-variants.{Whole, Refused}
 use Rattle.packet_ack.specs.declared.Walk.{Walk}
 use Rattle.packet_ack.specs.declared.Walk.the-variants as walkCase
-use Rattle.packet_ack.specs.Ack.{Range, Ack, RECORD, lower, lowers, ack, judged, tabled, told}
-use Rattle.packet_ack.specs.Steps.{range, highest, highestOf, ended, walkOf, placed, stored, filled}
-use Rattle.packet_ack.proofs.Fill.{stored-rising}
+use Rattle.packet_ack.specs.Ack.{Range, Ack, lower, lowers, ack, judged, tabled, told, readOf}
+use Rattle.packet_ack.specs.Steps.{range, highest, highestOf, ended, walkOf, filledFrom, FindGives}
+use Rattle.packet_ack.specs.declared.Found.{Found}
+use Rattle.packet_ack.proofs.Fill.{filled-rising}
 
 -- ---- the number of the lower ranges
 
@@ -91,44 +92,27 @@ module _ (s : List ℕ) (at : ℕ) {r : Got} (e : numOf r ≡ var s at) where
         ranges : length (reverse (range start end ∷ walked .0)) ≡ k + 1
         ranges = length-reverse (range start end ∷ walked .0) ∙ (let c = count in omega arith)
 
-        pub walked-good : Good (lowers k start s b)
-        walked-good = subst Good (sym (walked .1)) tt
+        module _ (n : ℕ) (full : n ≤ k) where
+          pub table-full : {f : Found} → (readOf (f .answer) ≡ fault 11) × (f .count ≡ 0) → FindGives s at n f
+          unfolding judged tabled filledFrom
+          table-full e =
+              let over : n < k + 1 = omega arith in
+              record { answer = e .0 ∙ sym (simp (is-packet, ranges, lt-leb _ _ over)); within = omega arith; fills = λ t. simp (e .1, is-packet, ranges, lt-leb _ _ over) }
 
-        module _ (t : List ℕ) (full : length t / RECORD ≤ k) where
-          over : length t < RECORD * (k + 1)
-          over = omega arith
-
-          table-full-r : fault 11 ≡ told (judged (ack s at) (length t))
-          unfolding judged
-          table-full-r = simp (is-packet, ranges, lt-leb _ _ over)
-
-          table-full-t : t ≡ tabled (judged (ack s at) (length t)) t
+        module _ (n : ℕ) (room : k < n) where
+          pub table-fits : {f : Found} → readOf (f .answer) ≡ ok (record { sequence = seq; count = k + 1 }) next → f .count ≡ k + 1 → f .top ≡ record { range = range start end; next = b } → FindGives s at n f
           unfolding judged tabled
-          table-full-t = simp (is-packet, ranges, lt-leb _ _ over)
+          table-fits e u c =
+              let within : k + 1 ≤ n = omega arith in
+              let fits : suc k ≤ n = omega arith in
+              let one : k + 1 ≡ suc k = omega arith in
+              record {
+                answer = e ∙ sym (simp (is-packet, ranges, le-leb _ _ within));
+                within = omega arith;
+                fills = λ t. simp (u, c, is-packet, ranges, one, le-leb _ _ fits) (filled-rising k s (range start end) b t (walked .1) count);
+              }
 
-          pub table-full : (fault 11 ≡ told (judged (ack s at) (length t))) × (t ≡ tabled (judged (ack s at) (length t)) t)
-          table-full = (table-full-r, table-full-t)
-
-        module _ (t : List ℕ) (room : k < length t / RECORD) where
-          within : RECORD * (k + 1) ≤ length t
-          within = omega arith
-
-          pub table-filled-r : ok (record { sequence = seq; count = k + 1 }) next ≡ told (judged (ack s at) (length t))
-          unfolding judged
-          table-filled-r = simp (is-packet, ranges, le-leb _ _ within)
-
-          pub table-filled-t : {t' : List ℕ} → t' ≡ filled k (lowers k start s b) (placed k (range start end) t) → t' ≡ tabled (judged (ack s at) (length t)) t
-          unfolding judged tabled stored
-          table-filled-t u =
-              let c = count in
-              let z : k ≡ k + 1 - 1 = omega arith in
-              simp (is-packet, ranges, le-leb _ _ within)
-              ((simp (walked .1) at u)
-              ∙ ap (λ (n : ℕ). stored n (walked .0) (placed n (range start end) t)) z
-              ∙ stored-rising (k + 1) (range start end ∷ walked .0) t (omega arith))
-
--- a fault is the answer, and the table is as it was
-pub refused : (s : List ℕ) (at : ℕ) (t : List ℕ) {x : ℕ} → fault x ≡ ack s at
-    → (fault x ≡ told (judged (ack s at) (length t))) × (t ≡ tabled (judged (ack s at) (length t)) t)
-unfolding judged tabled
-refused s at t e = simp (← e) (refl, refl)
+-- a fault is the answer, and no record is filled
+pub refused : (s : List ℕ) (at n : ℕ) {x : ℕ} {f : Found} → fault x ≡ ack s at → (readOf (f .answer) ≡ fault x) × (f .count ≡ 0) → FindGives s at n f
+unfolding judged tabled filledFrom
+refused s at n e u = record { answer = u .0 ∙ simp (← e); within = omega arith; fills = λ t. simp (← e, u .1) }

@@ -15,7 +15,7 @@ use Rattle.packet_ack.specs.Steps.{below, fallingBelow, falling}
 
 -- ---- the ranges of a table
 
-aux-listed : (t : List ℕ) (i k : ℕ) → reverseAux (listed t i k) (below t i) ≡ below t (i + k)
+aux-listed : (t : List Range) (i k : ℕ) → reverseAux (listed t i k) (below t i) ≡ below t (i + k)
 unfolding listed below
 aux-listed t i zero = let z : i ≡ i + 0 = omega arith in ap (below t) z
 aux-listed t i (suc k) =
@@ -23,20 +23,14 @@ aux-listed t i (suc k) =
     let o : suc i ≡ i + 1 = omega arith in
     ap (λ (n : ℕ). reverseAux (listed t (i + 1) k) (below t n)) o ∙ aux-listed t (i + 1) k ∙ ap (below t) z
 
-pub reverse-listed : (t : List ℕ) (k : ℕ) → reverse (listed t 0 k) ≡ below t k
+pub reverse-listed : (t : List Range) (k : ℕ) → reverse (listed t 0 k) ≡ below t k
 unfolding below
 reverse-listed t k = aux-listed t 0 k ∙ (let z : 0 + k ≡ k = omega arith in ap (below t) z)
 
-pub length-below : (t : List ℕ) (k : ℕ) → length (below t k) ≡ k
+pub length-below : (t : List Range) (k : ℕ) → length (below t k) ≡ k
 unfolding below
 length-below t zero = refl
 length-below t (suc k) = ap suc (length-below t k)
-
--- the highest of them, where there is one
-pub below-more : (t : List ℕ) (k : ℕ) → 0 < k → below t k ≡ recordAt t (k - 1) ∷ below t (k - 1)
-unfolding below
-below-more t zero h = absurd (omega arith)
-below-more t (suc k) h = let z : suc k - 1 ≡ k = omega arith in simp z
 
 -- ---- what holds of each holds of each from the other end
 

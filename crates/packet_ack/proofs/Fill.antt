@@ -1,53 +1,20 @@
--- The table that `fill_lowers` writes: a turn of its loop, and that ranges stored from the highest down make the rising table. Assumes nothing.
-use Prim.Native.Nat.{ℕ, zero, suc, _+_, _-_, _*_, _≤_, _<_}
+-- The table that `fill_ranges` makes: ranges stored from the highest down make the rising table. Assumes nothing.
+use Prim.Native.Nat.{ℕ, zero, suc, _+_, _≤_, _<_}
 use mathlib.Core.Path.{_≡_, refl, sym, ap, _∙_}
 use mathlib.Core.List.{List, [], _∷_, _++_, reverse, reverse-cons}
 use native.Mathlib.Omega.{arith}
 use native.Mathlib.Nat.{add-suc, suc-add}
-use native.Mathlib.Numerals.{add-one}
 use lib.ListN.{length, set, length-reverse}
 use lib.Seq.{set-comm}
 use Rattle.words.specs.Lists.{splice}
 use Rattle.words.specs.declared.Refusal.{Refusal}
 use Rattle.words.proofs.Splice.{splice-splice}
-use Rattle.octets.specs.Reader.{Res, ok, fault, then, Good}
+use Rattle.octets.specs.Reader.{Res, ok, fault, then}
+use Rattle.packet_ack.specs.Ack.{Range, lower, lowers}
+use Rattle.packet_ack.specs.declared.Spot.{Spot}
 use Rattle.packet_ack.specs.declared.Lower.{Lower}
 use Rattle.packet_ack.specs.declared.Lower.the-variants.{Whole, Refused}
-use Rattle.packet_ack.specs.Ack.{Range, RECORD, words, lower, lowers}
-use Rattle.packet_ack.specs.Steps.{range, lowerOf, placed, stored, filled}
-use Rattle.packet_ack.proofs.Read.{lowers-more}
-
--- ---- a turn of the loop. X is the table that the whole makes
-
-good-then : (x : Range) (r : Res (List Range)) → Good (then r (λ rs next. ok (x ∷ rs) next)) → Good r
-good-then x (ok rs next) g = tt
-good-then x (fault e) g = g
-
-filled-then : (k : ℕ) (x : Range) (r : Res (List Range)) (t : List ℕ) → Good (then r (λ rs next. ok (x ∷ rs) next))
-    → filled (k - 1) r (placed (k - 1) x t) ≡ filled k (then r (λ rs next. ok (x ∷ rs) next)) t
-unfolding stored
-filled-then k x (ok rs next) t g = refl
-filled-then k x (fault e) t g = absurd g
-
-pub fill-none : (s : List ℕ) (at above k : ℕ) (t : List ℕ) (n : ℕ) (q : Res (List Range)) {t₀ t₁ : List ℕ} → k ≤ 0 → filled k (lowers k above s at) t ≡ filled n q t₀ → t₀ ≡ t₁ → t ≡ filled n q t₁
-unfolding lowers stored
-fill-none s at above zero t n q h inv e = inv ∙ ap (filled n q) e
-fill-none s at above (suc k) t n q h inv e = absurd (omega arith)
-
-module _ (s : List ℕ) (at above k : ℕ) {r : Lower} (e : lowerOf r ≡ lower above s at) (h : 0 < k) (g : Good (lowers k above s at)) where
-  pub fill-refused : {x : Refusal} → r ≡ Refused x → ⊥
-  fill-refused m = simp (lowers-more k above s at h, ← e, m) at g
-
-  module _ {start end next : ℕ} (m : r ≡ Whole start end next) where
-    pub fill-good : Good (lowers (k - 1) start s next)
-    fill-good = good-then (range start end) (lowers (k - 1) start s next) (simp (lowers-more k above s at h, ← e, m) at g)
-
-    pub fill-more : (t : List ℕ) {t' X : List ℕ} → t' ≡ placed (k - 1) (range start end) t → filled k (lowers k above s at) t ≡ X
-        → filled (k - 1) (lowers (k - 1) start s next) t' ≡ X
-    fill-more t u inv =
-        ap (filled (k - 1) (lowers (k - 1) start s next)) u
-        ∙ filled-then k (range start end) (lowers (k - 1) start s next) t (simp (lowers-more k above s at h, ← e, m) at g)
-        ∙ (simp (lowers-more k above s at h, ← e, m) at inv)
+use Rattle.packet_ack.specs.Steps.{range, lowerOf, spotOf, lowerSpot, filledFrom}
 
 -- ---- two stores that don't meet may change places
 
@@ -66,33 +33,50 @@ module _ {A : Type 0} where
 
 -- ---- ranges stored from the highest down
 
-length-words : (rs : List Range) → length (words rs) ≡ RECORD * length rs
-unfolding words
-length-words [] = refl
-length-words (r ∷ rs) = let l = length-words rs in omega arith
+abbrev spot : Range → ℕ → Spot
+spot r next = record { range = r; next = next }
 
-words-append : (rs qs : List Range) → words (rs ++ qs) ≡ words rs ++ words qs
-unfolding words
-words-append [] qs = refl
-words-append (r ∷ rs) qs = ap (λ (l : List ℕ). r .start ∷ r .end ∷ l) (words-append rs qs)
+-- one range more, above those that are stored
+stored-top : (r : Range) (rs : List Range) (k : ℕ) (t : List Range) → length rs ≡ k → splice 0 (reverse rs) (set t k r) ≡ splice 0 (reverse (r ∷ rs)) t
+unfolding splice
+stored-top r rs k t e =
+    let l : 0 + length (reverse rs) ≡ k = rw (length-reverse rs) (omega arith) in
+    splice-comm 0 (reverse rs) k (r ∷ []) t (omega arith)
+    ∙ ap (λ (m : ℕ). splice m (r ∷ []) (splice 0 (reverse rs) t)) (sym l)
+    ∙ splice-splice 0 (reverse rs) (r ∷ []) t
+    ∙ ap (λ (l : List Range). splice 0 l t) (sym (reverse-cons r rs))
 
-words-reverse : (r : Range) (rs : List Range) → words (reverse (r ∷ rs)) ≡ words (reverse rs) ++ (r .start ∷ r .end ∷ [])
-unfolding words
-words-reverse r rs = ap words (reverse-cons r rs) ∙ words-append (reverse rs) (r ∷ [])
+-- what the lower ranges are says what the first of them is, and the rest
+lowers-first : (x : Range) (r : Res (List Range)) {rs : List Range} {next : ℕ} → then r (λ xs b. ok (x ∷ xs) b) ≡ ok rs next → (xs : List Range) × (r ≡ ok xs next) × (rs ≡ x ∷ xs)
+lowers-first x (ok xs b) e = (xs, cc, cc)
+lowers-first x (fault y) e = let z : _≡_ {A = ℕ} 0 1 = cc in absurd (omega arith)
 
-pub stored-rising : (k : ℕ) (rs : List Range) (t : List ℕ) → length rs ≡ k → stored k rs t ≡ splice 0 (words (reverse rs)) t
-unfolding stored splice words
-stored-rising k [] t e = refl
-stored-rising k (r ∷ rs) t e =
-    let w : List ℕ = words (reverse rs) in
-    let two : List ℕ = r .start ∷ r .end ∷ [] in
-    let p : ℕ = RECORD * (k - 1) in
-    let n : length rs ≡ k - 1 = omega arith in
-    let l : 0 + length w ≡ p = rw (length-words (reverse rs), length-reverse rs) (omega arith) in
-    let i : placed (k - 1) r t ≡ splice p two t = simp (add-one p) in
-    stored-rising (k - 1) rs (placed (k - 1) r t) n
-    ∙ ap (splice 0 w) i
-    ∙ splice-comm 0 w p two t (omega arith)
-    ∙ ap (λ (m : ℕ). splice m two (splice 0 w t)) (sym l)
-    ∙ splice-splice 0 w two t
-    ∙ ap (λ (l : List ℕ). splice 0 l t) (sym (words-reverse r rs))
+lowers-split : (k : ℕ) (s : List ℕ) (r : Res Range) {rs : List Range} {next : ℕ} → then r (λ x n. then (lowers k (x .start) s n) (λ xs b. ok (x ∷ xs) b)) ≡ ok rs next
+    → (x : Range) × (n : ℕ) × (xs : List Range) × (r ≡ ok x n) × (lowers k (x .start) s n ≡ ok xs next) × (rs ≡ x ∷ xs)
+lowers-split k s (ok x n) e = let f = lowers-first x (lowers k (x .start) s n) e in (x, n, f .0, refl, f .1, f .2)
+lowers-split k s (fault y) e = let z : _≡_ {A = ℕ} 0 1 = cc in absurd (omega arith)
+
+pub filled-rising : (k : ℕ) (s : List ℕ) (r : Range) (at : ℕ) (t : List Range) {rs : List Range} {next : ℕ} → lowers k (r .start) s at ≡ ok rs next → length rs ≡ k
+    → filledFrom (suc k) s (spot r at) t ≡ splice 0 (reverse (r ∷ rs)) t
+unfolding lowers filledFrom splice
+filled-rising zero s r at t {rs} e c = one rs c
+  where
+    one : (rs : List Range) → length rs ≡ 0 → splice 0 (r ∷ []) t ≡ splice 0 (reverse (r ∷ rs)) t
+    one [] c = refl
+    one (x ∷ xs) c = absurd (omega arith)
+filled-rising (suc k) s r at t {rs} e c =
+    let f = lowers-split k s (lower (r .start) s at) e in
+    let l : length (f .2) ≡ k = omega (arith, ap length (f .5)) in
+    ap (λ (d : Spot). filledFrom (suc k) s d (set t (suc k) r)) (ap (spotOf (spot r at)) (f .3))
+    ∙ filled-rising k s (f .0) (f .1) (set t (suc k) r) (f .4) l
+    ∙ ap (λ (q : List Range). splice 0 (reverse q) (set t (suc k) r)) (sym (f .5))
+    ∙ stored-top r rs (suc k) t c
+
+-- ---- the range below, as code finds it
+
+module _ (s : List ℕ) (c : Spot) {r : Lower} (e : lowerOf r ≡ lower (c .range .start) s (c .next)) where
+  pub spot-refused : {x : Refusal} → r ≡ Refused x → c ≡ lowerSpot s c
+  spot-refused m = simp (← e, m)
+
+  pub spot-whole : {start end next : ℕ} → r ≡ Whole start end next → spot (range start end) next ≡ lowerSpot s c
+  spot-whole m = simp (← e, m)

@@ -12,29 +12,25 @@ use Rattle.words.specs.Lists.{all, reached}
 use Rattle.octets.specs.Varint.{varLen}
 use Rattle.octets.proofs.Back.{length-var}
 use Rattle.packet_ack.specs.Ack.{Range}
-use Rattle.packet_ack.specs.Write.{sayable, sizeLessOne, recordAt, lowersBytes}
-use Rattle.packet_ack.specs.Steps.{begun, stepped, below, fallingBelow, falling, rangeLen}
+use Rattle.packet_ack.specs.Write.{sayable, sizeLessOne, lowersBytes}
+use Rattle.packet_ack.specs.Steps.{unjudgedIn, begun, stepped, judgedNext, fallingBelow, falling, rangeLen}
 use Rattle.packet_ack.specs.declared.Judgement.{Judgement}
-use Rattle.packet_ack.proofs.Falling.{whole, below-more}
+use Rattle.packet_ack.proofs.Falling.{whole}
 
 -- ---- one range more, as code finds its parts
 
 pub stepped-is : (j : Judgement) (r : Range) {s : Bool} {spare len gap apart : ℕ} → s ≡ sayable r → spare ≡ j .spare - len → len ≡ rangeLen gap r → gap ≡ apart - 1 → apart ≡ j .start - r .end
-    → record { sayable = j .sayable && s; rising = j .rising && ltb (r .end) (j .start) && ltb (r .start) (r .end); start = r .start; spare = spare } ≡ stepped j r
+    → record { first = false; sayable = j .sayable && s; rising = j .rising && ltb (r .end) (j .start) && ltb (r .start) (r .end); top = j .top; start = r .start; spare = spare } ≡ stepped j r
 unfolding stepped
 stepped-is j r a b c d e = simp (a, b, c, d, e)
 
--- ---- a turn of the loop. X is what the whole pass reaches
+-- ---- the pass is one of steps, once the highest range is judged
 
-pub pass-none : (t : List ℕ) (k n : ℕ) {j j₀ b : Judgement} → k ≤ 0 → reached stepped j (below t k) ≡ reached stepped j₀ (below t n) → j₀ ≡ b → j ≡ reached stepped b (below t n)
-unfolding below reached
-pass-none t zero n h inv e = inv ∙ ap (λ (j : Judgement). reached stepped j (below t n)) e
-pass-none t (suc k) n h inv e = absurd (omega arith)
-
-pub pass-more : (t : List ℕ) (k : ℕ) (j : Judgement) {j' X : Judgement} → 0 < k → j' ≡ stepped j (recordAt t (k - 1)) → reached stepped j (below t k) ≡ X
-    → reached stepped j' (below t (k - 1)) ≡ X
-unfolding reached
-pass-more t k j h e inv = ap (λ (j : Judgement). reached stepped j (below t (k - 1))) e ∙ (simp (below-more t k h) at inv)
+pub pass-steps : (j : Judgement) (rs : List Range) → j .first ≡ false → reached judgedNext j rs ≡ reached stepped j rs
+unfolding reached stepped
+pass-steps j [] e = refl
+pass-steps j (r ∷ rs) e =
+    ap (λ (b : Bool). reached judgedNext (pick b (begun (j .spare) r) (stepped j r)) rs) e ∙ pass-steps (stepped j r) rs refl
 
 -- ---- what the pass reaches, field by field
 
@@ -67,6 +63,11 @@ pass-spare j (r ∷ rs) =
     let e : j .spare - (g + z) - l ≡ j .spare - (g + (z + l)) = omega arith in
     pass-spare (stepped j r) rs ∙ e ∙ simp (length-append, length-var)
 
+pass-top : (j : Judgement) (rs : List Range) → reached stepped j rs .top ≡ j .top
+unfolding reached stepped
+pass-top j [] = refl
+pass-top j (r ∷ rs) = pass-top (stepped j r) rs
+
 -- the whole pass, from the highest range on
 module _ (room : ℕ) (r : Range) (rs : List Range) where
   pub judged-sayable : reached stepped (begun room r) rs .sayable ≡ all sayable (r ∷ rs)
@@ -80,3 +81,11 @@ module _ (room : ℕ) (r : Range) (rs : List Range) where
   pub judged-spare : reached stepped (begun room r) rs .spare ≡ room - rangeLen (r .end - 1) r - length (lowersBytes (r .start) rs)
   unfolding begun
   judged-spare = pass-spare (begun room r) rs
+
+  pub judged-top : reached stepped (begun room r) rs .top ≡ r
+  unfolding begun
+  judged-top = pass-top (begun room r) rs
+
+  pub judged-steps : reached judgedNext (unjudgedIn room) (r ∷ rs) ≡ reached stepped (begun room r) rs
+  unfolding reached begun
+  judged-steps = pass-steps (begun room r) rs refl

@@ -144,7 +144,7 @@ module _ (seq : ℕ) (rs : List Range) (h : seq < LIMIT) (s : all sayable rs ≡
       (record { rest = drop (at + length (ackBytes seq rs)) out; goes-on = drop-at-splice at (ackBytes seq rs) out i })
       written
 
--- ---- 6. one outcome only: two answers of the reader that meet one promise are equal (the promise gives the table itself; of `put_ack` see octets)
+-- ---- 6. one outcome only: two answers of the reader that meet one promise are equal (the promise of `find_ack` gives the table that is then filled; of `put_front`'s answer see octets)
 
 abbrev readFrom : Res Told → AckRead
 readFrom (ok p next) = Whole (record { sequence = record { 0 = p .sequence }; count = p .count }) next

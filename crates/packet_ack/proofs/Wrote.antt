@@ -1,19 +1,21 @@
 -- What the writing functions make of the buffer. Assumes nothing.
-use Prim.Native.Nat.{ℕ, zero, suc, _+_, _-_, _≤_, _<_}
+use Prim.Native.Nat.{ℕ, suc, _+_, _-_, _≤_, _<_}
 use mathlib.Core.Path.{_≡_, refl, sym, ap, _∙_}
 use mathlib.Core.Bool.{true}
 use mathlib.Core.List.{List, _∷_, _++_, append-assoc}
 use native.Mathlib.Omega.{arith}
 use native.Mathlib.Numerals.{add-one}
 use lib.ListN.{length, set, length-append}
+use Rattle.words.specs.Sizes.{LIMIT}
 use Rattle.words.specs.Lists.{splice}
 use Rattle.words.proofs.Splice.{splice-splice}
 use Rattle.octets.specs.Varint.{varLen, varBytes}
 use Rattle.octets.proofs.Back.{length-var}
 use Rattle.packet_ack.specs.Ack.{Range}
 use Rattle.packet_ack.specs.Write.{sizeLessOne, typeByte, recordAt, lowersBytes}
-use Rattle.packet_ack.specs.Steps.{below, fallingBelow, startBytes, rangeLen, rangeBytes}
-use Rattle.packet_ack.proofs.Falling.{below-more, falls-first}
+use Rattle.packet_ack.specs.Steps.{below, fallingBelow, startBytes, rangeLen, rangeBytes, frontLen, frontBytes, gapBelow, penBelow, Writable}
+use Rattle.packet_ack.specs.declared.Pen.{Pen}
+use Rattle.packet_ack.proofs.Falling.{falls-first}
 
 -- what is written after a run that is written, and after a number
 pub wrote-next : (at : ℕ) (xs bs s0 : List ℕ) {a : ℕ} {s1 s2 : List ℕ} → s2 ≡ splice a bs s1 → a ≡ at + length xs → s1 ≡ splice at xs s0 → s2 ≡ splice at (xs ++ bs) s0
@@ -42,44 +44,60 @@ pub range-wrote : (at before : ℕ) (r : Range) {a : ℕ} {s1 s2 : List ℕ} (s0
 unfolding rangeBytes
 range-wrote at before r s0 w2 e w1 = wrote-var at before (varBytes (sizeLessOne r)) s0 w2 e w1
 
--- ---- a turn of the loop that writes the lower ranges
+-- ---- all but the lower ranges
 
-lowers-first : (above : ℕ) (r : Range) (rs : List Range) → lowersBytes above (r ∷ rs) ≡ rangeBytes (above - r .end - 1) r ++ lowersBytes (r .start) rs
-unfolding lowersBytes rangeBytes
-lowers-first above r rs = sym (append-assoc (varBytes (above - r .end - 1)) (varBytes (sizeLessOne r)) (lowersBytes (r .start) rs))
+pub length-front : (seq : ℕ) (r : Range) (n : ℕ) → length (frontBytes seq r n) ≡ frontLen seq r n
+unfolding frontBytes
+length-front seq r n = simp (length-append, length-start, length-range, length-var) (omega arith)
 
-module _ (t : List ℕ) (k above : ℕ) (h : 0 < k) where
-  turn-bytes : lowersBytes above (below t k) ≡ rangeBytes (above - recordAt t (k - 1) .end - 1) (recordAt t (k - 1)) ++ lowersBytes (recordAt t (k - 1) .start) (below t (k - 1))
-  turn-bytes = ap (lowersBytes above) (below-more t k h) ∙ lowers-first above (recordAt t (k - 1)) (below t (k - 1))
+pub front-wrote : (at seq : ℕ) (r : Range) (n : ℕ) (s0 : List ℕ) {a b : ℕ} {s1 s2 s3 : List ℕ}
+    → s3 ≡ splice b (varBytes n) s2 → b ≡ a + rangeLen (r .end - 1) r → s2 ≡ splice a (rangeBytes (r .end - 1) r) s1 → a ≡ at + (1 + varLen seq) → s1 ≡ splice at (startBytes seq) s0
+    → s3 ≡ splice at (frontBytes seq r n) s0
+unfolding frontBytes
+front-wrote at seq r n s0 {a} {s1 = s1} w3 eb w2 ea w1 =
+    let lb = length-range (r .end - 1) r in
+    let la = length-start seq in
+    wrote-next at (startBytes seq) _ s0 (wrote-next a (rangeBytes (r .end - 1) r) (varBytes n) s1 w3 (omega arith) w2) (omega arith) w1
 
-  -- what is known of the range that a turn writes
+-- ---- a turn of the loop that writes the lower ranges, of which the first is r
+
+module _ (p : Pen) (r : Range) (rs : List Range) where
+  turn-bytes : lowersBytes (p .above) (r ∷ rs) ≡ rangeBytes (gapBelow p r) r ++ lowersBytes (r .start) rs
+  unfolding lowersBytes rangeBytes
+  turn-bytes = sym (append-assoc (varBytes (gapBelow p r)) (varBytes (sizeLessOne r)) (lowersBytes (r .start) rs))
+
+  -- what is known of it
   pub record Turn : Type 0 where
-    pub sized : recordAt t (k - 1) .start < recordAt t (k - 1) .end
-    pub apart : recordAt t (k - 1) .end < above
-    pub falls : fallingBelow (recordAt t (k - 1) .start) (below t (k - 1)) ≡ true
-    pub long : length (lowersBytes above (below t k)) ≡ rangeLen (above - recordAt t (k - 1) .end - 1) (recordAt t (k - 1)) + length (lowersBytes (recordAt t (k - 1) .start) (below t (k - 1)))
+    pub sized : r .start < r .end
+    pub apart : r .end < p .above
+    pub falls : fallingBelow (r .start) rs ≡ true
+    pub long : length (lowersBytes (p .above) (r ∷ rs)) ≡ rangeLen (gapBelow p r) r + length (lowersBytes (r .start) rs)
 
-  pub turn : fallingBelow above (below t k) ≡ true → Turn
+  pub turn : fallingBelow (p .above) (r ∷ rs) ≡ true → Turn
   turn f =
-      let g = falls-first above (recordAt t (k - 1)) (below t (k - 1)) (simp (below-more t k h) at f) in
+      let g = falls-first (p .above) r rs f in
       record { sized = g .1; apart = g .0; falls = g .2; long = rw (turn-bytes, length-append, length-range) }
 
-  -- X is the buffer that the whole makes
-  pub turn-wrote : (at : ℕ) (out : List ℕ) {at' : ℕ} {out' X : List ℕ}
-      → out' ≡ splice at (rangeBytes (above - recordAt t (k - 1) .end - 1) (recordAt t (k - 1))) out → at' ≡ at + rangeLen (above - recordAt t (k - 1) .end - 1) (recordAt t (k - 1))
-      → splice at (lowersBytes above (below t k)) out ≡ X
-      → splice at' (lowersBytes (recordAt t (k - 1) .start) (below t (k - 1))) out' ≡ X
-  turn-wrote at out w e inv =
-      wrote-next at (rangeBytes (above - recordAt t (k - 1) .end - 1) (recordAt t (k - 1))) _ out refl (e ∙ ap (λ (n : ℕ). at + n) (sym (length-range (above - recordAt t (k - 1) .end - 1) (recordAt t (k - 1))))) w
-      ∙ ap (λ (bs : List ℕ). splice at bs out) (sym turn-bytes)
-      ∙ inv
+  pub turn-wrote : (out : List ℕ) {out' : List ℕ} → out' ≡ splice (p .at) (rangeBytes (gapBelow p r) r) out
+      → splice (penBelow p r .at) (lowersBytes (r .start) rs) out' ≡ splice (p .at) (lowersBytes (p .above) (r ∷ rs)) out
+  turn-wrote out w =
+      wrote-next (p .at) (rangeBytes (gapBelow p r) r) _ out refl (ap (λ (n : ℕ). p .at + n) (sym (length-range (gapBelow p r) r))) w
+      ∙ ap (λ (bs : List ℕ). splice (p .at) bs out) (sym turn-bytes)
 
-pub wrote-none : (t : List ℕ) (k above at : ℕ) (out : List ℕ) {X : List ℕ} → k ≤ 0 → splice at (lowersBytes above (below t k)) out ≡ X → out ≡ X
-unfolding below lowersBytes splice
-wrote-none t zero above at out h inv = inv
-wrote-none t (suc k) above at out h inv = absurd (omega arith)
+pub pen-is : (p : Pen) (r : Range) {a : ℕ} → a ≡ p .at + rangeLen (gapBelow p r) r → record { at = a; above = r .start } ≡ penBelow p r
+pen-is p r e = simp e
 
-pub length-none : (t : List ℕ) (k above : ℕ) → k ≤ 0 → length (lowersBytes above (below t k)) ≡ 0
-unfolding below lowersBytes
-length-none t zero above h = refl
-length-none t (suc k) above h = absurd (omega arith)
+-- what can be written once one more is written
+pub next-writable : (t : List Range) (k : ℕ) (p : Pen) (m : ℕ) → Writable t (suc k) p m → Writable t k (penBelow p (recordAt t k)) m
+unfolding below
+next-writable t k p m w =
+    let y = turn p (recordAt t k) (below t k) (w .falls) in
+    record { named = omega (arith, w .named); falls = y .falls; limit = omega (arith, y .sized, y .apart, w .limit); room = omega (arith, y .long, w .room) }
+
+-- what writing that one asks
+pub write-asks : (t : List Range) (k : ℕ) (p : Pen) (m : ℕ) → Writable t (suc k) p m
+    → (recordAt t k .start < recordAt t k .end) × (recordAt t k .end < p .above) × (p .above ≤ LIMIT) × (p .at + rangeLen (gapBelow p (recordAt t k)) (recordAt t k) ≤ m)
+unfolding below
+write-asks t k p m w =
+    let y = turn p (recordAt t k) (below t k) (w .falls) in
+    (y .sized, y .apart, w .limit, omega (arith, y .long, w .room))

@@ -2,7 +2,7 @@
 --   4 Ack  v seq, v last value of the highest range, v its size less one, v ranges remaining; per lower range v gap, v size less one
 -- Ranges are half-open, rising, with at least one number missing between two. Gap = start of the range above, minus this
 -- range's end, minus 1. Assumes nothing.
-use Prim.Native.Nat.{ℕ, zero, suc, _+_, _-_, _*_}
+use Prim.Native.Nat.{ℕ, zero, suc, _+_, _-_}
 use mathlib.Core.List.{List, [], _∷_, reverse}
 use lib.ListN.{length}
 use lib.Dec.{leb}
@@ -13,13 +13,10 @@ use Rattle.octets.specs.Reader.{Res, ok, fault, then, Reader, _>>=_, _>>_, give
 use Rattle.octets.specs.Varint.{var}
 use Rattle.packet_ack.specs.declared.AckRead.{AckRead}
 use Rattle.packet_ack.specs.declared.AckRead.the-variants.{Whole, Refused}
-
 -- ---- the layout
 
--- the numbers from `start` up to, and without, `end`
-pub record Range : Type 0 where
-  pub start : ℕ
-  pub end : ℕ
+-- a range is the code's own record: the numbers from `start` up to, and without, `end`
+pub use Rattle.packet_ack.specs.declared.Range.{Range}
 
 -- the range whose last value and whose size less one are these; 5 where it would start below 0
 unfoldable pub sized : ℕ → ℕ → Reader Range
@@ -62,22 +59,18 @@ ack = do
 
 -- ---- what the reader answers, and what it leaves of a lent table of ranges
 
--- two words for each range: start, end
-abbrev pub RECORD : ℕ
-RECORD = 2
+-- records of a table that goes by value
+abbrev pub RANGES : ℕ
+RANGES = 64
 
-unfoldable pub words : List Range → List ℕ
-words [] = []
-words (r ∷ rs) = r .start ∷ r .end ∷ words rs
-
--- a good packet with more ranges than a table of n words holds is refused: 11
+-- a good packet with more ranges than a table of n records is refused: 11
 unfoldable pub judged : Res Ack → ℕ → Res Ack
-judged (ok p next) n = pick (leb (RECORD * length (p .ranges)) n) (ok p next) (fault 11)
+judged (ok p next) n = pick (leb (length (p .ranges)) n) (ok p next) (fault 11)
 judged (fault e) n = fault e
 
 -- the table afterwards: only as many records as there are ranges change; a refusal changes none
-unfoldable pub tabled : Res Ack → List ℕ → List ℕ
-tabled (ok p next) t = splice 0 (words (p .ranges)) t
+unfoldable pub tabled : Res Ack → List Range → List Range
+tabled (ok p next) t = splice 0 (p .ranges) t
 tabled (fault e) t = t
 
 -- what is told beside the table: the sequence and how many ranges there are

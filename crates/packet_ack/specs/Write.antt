@@ -1,5 +1,5 @@
 -- Packets of acknowledgements, written. Document 01, "Packet layouts" and the order of refusals in encoding. Assumes nothing.
-use Prim.Native.Nat.{ℕ, zero, suc, _+_, _-_, _*_}
+use Prim.Native.Nat.{ℕ, zero, suc, _+_, _-_}
 use mathlib.Core.Bool.{Bool, true, false, not}
 use mathlib.Core.List.{List, [], _∷_, _++_, reverse}
 use lib.ListN.{length, getD}
@@ -9,7 +9,7 @@ use Rattle.words.specs.Choice.{pick, refusal}
 use Rattle.words.specs.Lists.{all}
 use Rattle.octets.specs.Varint.{varBytes}
 use Rattle.octets.specs.Writer.{Outcome, outcome}
-use Rattle.packet_ack.specs.Ack.{Range, RECORD}
+use Rattle.packet_ack.specs.Ack.{Range}
 
 -- ---- bytes
 
@@ -34,13 +34,13 @@ fallingBytes (r ∷ rs) = varBytes (r .end - 1) ++ (varBytes (sizeLessOne r) ++ 
 unfoldable pub ackBytes : ℕ → List Range → List ℕ
 ackBytes seq rs = typeByte ∷ (varBytes seq ++ fallingBytes (reverse rs))
 
--- ---- the ranges that a table names: two words for each, start, end
+-- ---- the ranges of a table
 
-abbrev pub recordAt : List ℕ → ℕ → Range
-recordAt t i = record { start = getD t (RECORD * i) 0; end = getD t (RECORD * i + 1) 0 }
+abbrev pub recordAt : List Range → ℕ → Range
+recordAt t i = getD t i (record { start = 0; end = 0 })
 
 -- k of them, from the i-th on
-unfoldable pub listed : List ℕ → ℕ → ℕ → List Range
+unfoldable pub listed : List Range → ℕ → ℕ → List Range
 listed t i zero = []
 listed t i (suc k) = recordAt t i ∷ listed t (i + 1) k
 
@@ -61,16 +61,16 @@ unfolding risingAfter
 rising [] = false
 rising (r ∷ rs) = pick (ltb (r .start) (r .end)) (risingAfter (r .end) rs) false
 
--- the packet of n ranges that the table t names, at place `at` of m bytes
-unfoldable pub ackRefusal : ℕ → List ℕ → ℕ → ℕ → ℕ → ℕ
+-- the packet of the first n ranges of the table t, at place `at` of m bytes
+unfoldable pub ackRefusal : ℕ → List Range → ℕ → ℕ → ℕ → ℕ
 ackRefusal seq t n at m =
     refusal (
-    (ltb (length t) (RECORD * n), 10) ∷
+    (ltb (length t) n, 10) ∷
     (leb LIMIT seq, 13) ∷
     (not (all sayable (listed t 0 n)), 13) ∷
     (not (rising (listed t 0 n)), 5) ∷
     (ltb m (at + length (ackBytes seq (listed t 0 n))), 1) ∷ []
     )
 
-unfoldable pub putAck : ℕ → List ℕ → ℕ → ℕ → ℕ → Outcome
+unfoldable pub putAck : ℕ → List Range → ℕ → ℕ → ℕ → Outcome
 putAck seq t n at m = outcome (ackRefusal seq t n at m) (at + length (ackBytes seq (listed t 0 n)))

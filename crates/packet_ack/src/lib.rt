@@ -1,17 +1,21 @@
-// Packets of acknowledgements, type 4, read and written. Ranges are named by a lent table, two words
-// for each: start and end, half-open and rising. A packet says them from the highest down.
+// Packets of acknowledgements, type 4, read and written. Ranges stand in a lent table of records,
+// half-open and rising. A packet says them from the highest down.
+//
+// The core works on numbers and on records by value. Three thin functions walk the table:
+// `fill_ranges`, `judge_ranges` and `write_ranges`.
 ghost use mathlib.Core.Path.{_≡_};
-ghost use mathlib.Core.Bool.{true};
-ghost use Prim.Native.Nat.{_+_, _-_, _*_, _≤_, _<_};
+ghost use Prim.Native.Nat.{_+_, _-_, _≤_, _<_};
 ghost use lib.ListN.{length};
 ghost use Rattle.words.specs.Sizes.{LIMIT};
-ghost use Rattle.words.specs.Lists.{splice, all, reached};
-ghost use Rattle.octets.specs.Reader.{Good};
-ghost use Rattle.octets.specs.Writer.{putOf, left};
+ghost use Rattle.words.specs.Lists.{splice, reached};
+ghost use Rattle.words.specs.Refusal.{numberOf};
+ghost use Rattle.octets.specs.Reader.{fault};
+ghost use Rattle.octets.specs.Writer.{putOf, refused};
 ghost use Rattle.octets.specs.Varint.{varLen};
-ghost use Rattle.packet_ack.specs.Ack.{lower, lowers, ack, RECORD, judged, tabled, told, readOf};
-ghost use Rattle.packet_ack.specs.Write.{sayable, lowersBytes, ackBytes, recordAt, listed, rising, putAck};
-ghost use Rattle.packet_ack.specs.Steps.{range, lowerOf, highest, highestOf, ended, walkOf, placed, filled, begun, stepped, below, fallingBelow, startBytes, rangeLen, rangeBytes};
+ghost use Rattle.packet_ack.specs.Ack.{RANGES, lower, lowers, readOf};
+ghost use Rattle.packet_ack.specs.Write.{sayable, lowersBytes};
+ghost use Rattle.packet_ack.specs.Steps.{range, lowerOf, highest, highestOf, ended, walkOf, lowerSpot, filledFrom, FindGives};
+ghost use Rattle.packet_ack.specs.Steps.{unjudgedIn, begun, stepped, judgedNext, below, startBytes, rangeLen, rangeBytes, frontLen, frontBytes, gapBelow, penBelow, Writable, JudgedOf, FrontGives};
 use octets::Got;
 use octets::Put;
 use words::LIMIT;
@@ -21,8 +25,21 @@ use words::Sequence;
 // The first byte of every packet of this kind.
 const TYPE: u8 = 4;
 
-// Words of the table for each range.
-pub const RECORD: usize = 2;
+// Records of a table that goes by value.
+pub const RANGES: usize = 64;
+
+// The numbers from `start` up to, and without, `end`. In C's layout, so that a caller in another language lends records too.
+#[repr(C)]
+pub struct Range {
+    pub start: u64,
+    pub end: u64,
+}
+
+// A range that is read, and the place after it, where the range below it stands if there is one.
+pub struct Spot {
+    pub range: Range,
+    pub next: usize,
+}
 
 // What a packet says beside its ranges, and how many they are.
 pub struct Ack {
@@ -34,6 +51,13 @@ pub struct Ack {
 pub enum AckRead {
     Whole(Ack, usize),
     Refused(Refusal),
+}
+
+// What fills the table, the highest range and how many records there are; and the answer of the reader.
+pub struct Found {
+    pub top: Spot,
+    pub count: usize,
+    pub answer: AckRead,
 }
 
 // Start and end of a lower range and the place after it, or the refusal.
@@ -56,13 +80,30 @@ enum Walk {
 
 // What is known of the ranges judged so far, from the highest down. What is spare is right only while they rise;
 // where they don't, they are refused for that, whatever the room.
-struct Judgement {
-    sayable: bool,
-    rising: bool,
+pub struct Judgement {
+    // whether none is judged yet
+    pub first: bool,
+    pub sayable: bool,
+    pub rising: bool,
+    // the highest of them
+    pub top: Range,
     // where the lowest of them starts
-    start: u64,
+    pub start: u64,
     // what they leave of the room
-    spare: u64,
+    pub spare: u64,
+}
+
+// Where the next lower range is written, and where the range above it starts.
+pub struct Pen {
+    pub at: usize,
+    pub above: u64,
+}
+
+// What is still to be written of the packet, so many ranges by a pen; and the answer of the writer.
+pub struct Front {
+    pub pen: Pen,
+    pub left: usize,
+    pub answer: Put,
 }
 
 // Reads the lower range at a place, where the range above it starts at `above`.
@@ -124,62 +165,87 @@ fn walk_lowers(s: &[u8], from: usize, n: u64, highest: u64) -> Walk
     Walk::Until(at)
 }
 
-// Stores a range at record i.
-fn store_range(t: &mut [u64], i: usize, start: u64, end: u64)
-    requires { ⌜ RECORD * i + 1 < length (now t) ⌝ }
-    ensures { λ _. ⌜ now (t .exit) ≡ placed i (range start end) (now (t .entry)) ⌝ }
+// The range below one that is read, which was walked before.
+fn lower_spot(s: &[u8], c: Spot) -> Spot
+    ensures { λ r. ⌜ r ≡ lowerSpot (now (s .entry)) c ⌝ }
 {
-    t[RECORD * i] = start;
-    t[RECORD * i + 1] = end;
-}
-
-// Fills n + 1 records with the highest range and the n lower ones, which were walked before, from the last record down.
-fn fill_table(s: &[u8], from: usize, n: usize, start: u64, end: u64, t: &mut [u64])
-    requires { ⌜ Good (lowers n start (now s) from) ⌝ }
-    requires { ⌜ RECORD * (n + 1) ≤ length (now t) ⌝ }
-    ensures { λ _. ⌜ now (t .exit) ≡ filled n (lowers n start (now (s .entry)) from) (placed n (range start end) (now (t .entry))) ⌝ }
-{
-    store_range(t, n, start, end);
-    let mut at = from;
-    let mut above = start;
-    let mut left = n;
-    while 0 < left {
-        let Lower::Whole(start, end, next) = read_lower(s, at, above) else {
-            // not met: the walk has passed it
-            return;
-        };
-        left -= 1;
-        store_range(t, left, start, end);
-        above = start;
-        at = next;
+    let above = c.range.start;
+    match read_lower(s, c.next, above) {
+        // not met: the walk has passed it
+        Lower::Refused(_) => c,
+        Lower::Whole(start, end, next) => Spot {
+            range: Range { start, end },
+            next,
+        },
     }
 }
 
-// Reads what follows the type byte, from a place on, and fills the table if all is good and it is large enough.
-pub fn read_ack(s: &[u8], at: usize, ranges: &mut [u64]) -> AckRead
-    ensures { λ r. ⌜ (readOf r ≡ told (judged (ack (now (s .entry)) at) (length (now (ranges .entry)))))
-        × (now (ranges .exit) ≡ tabled (judged (ack (now (s .entry)) at) (length (now (ranges .entry)))) (now (ranges .entry))) ⌝ }
+// Fills the first n records with the ranges from `top` down, from the last record down.
+pub fn fill_ranges(ranges: &mut [Range], s: &[u8], top: Spot, n: usize)
+    requires { ⌜ n ≤ length (now ranges) ⌝ }
+    ensures { λ _. ⌜ now (ranges .exit) ≡ filledFrom n (now (s .entry)) top (now (ranges .entry)) ⌝ }
+{
+    let mut c = top;
+    let mut left = n;
+    while 0 < left {
+        left -= 1;
+        ranges[left] = c.range;
+        c = lower_spot(s, c);
+    }
+}
+
+// The same of a table by value: whoever has one needs no walk by hand.
+pub fn fill_table(table: [Range; RANGES], s: &[u8], top: Spot, n: usize) -> [Range; RANGES]
+    requires { ⌜ n ≤ RANGES ⌝ }
+    ensures { λ r. ⌜ r ≡ filledFrom n (now (s .entry)) top table ⌝ }
+{
+    let mut t = table;
+    fill_ranges(&mut t, s, top, n);
+    t
+}
+
+// What is found where a packet is refused: no record is to be filled.
+fn no_ranges(e: Refusal) -> Found
+    ensures { λ r. ⌜ (readOf (r .answer) ≡ fault (numberOf e)) × (r .count ≡ 0) ⌝ }
+{
+    Found {
+        answer: AckRead::Refused(e),
+        top: Spot {
+            range: Range { start: 0, end: 0 },
+            next: 0,
+        },
+        count: 0,
+    }
+}
+
+// Reads what follows the type byte, from a place on, for a table of so many records; `fill_ranges` then fills them.
+pub fn find_ack(s: &[u8], at: usize, room: usize) -> Found
+    ensures { λ r. ⌜ FindGives (now (s .entry)) at room r ⌝ }
 {
     let Got::Value(seq, a) = octets::get_varint(s, at) else {
-        return AckRead::Refused(Refusal::BufferTooShort);
+        return no_ranges(Refusal::BufferTooShort);
     };
     match read_highest(s, a) {
-        Highest::Refused(e) => AckRead::Refused(e),
+        Highest::Refused(e) => no_ranges(e),
         Highest::Whole(start, end, k, b) => match walk_lowers(s, b, k, start) {
-            Walk::Refused(e) => AckRead::Refused(e),
+            Walk::Refused(e) => no_ranges(e),
             Walk::Until(next) => {
                 let n = k as usize;
-                if ranges.len() / RECORD <= n {
-                    return AckRead::Refused(Refusal::TableFull);
+                if room <= n {
+                    return no_ranges(Refusal::TableFull);
                 }
-                fill_table(s, b, n, start, end, ranges);
-                AckRead::Whole(
-                    Ack {
-                        sequence: Sequence(seq),
-                        count: n + 1,
+                let p = Ack {
+                    sequence: Sequence(seq),
+                    count: n + 1,
+                };
+                Found {
+                    answer: AckRead::Whole(p, next),
+                    top: Spot {
+                        range: Range { start, end },
+                        next: b,
                     },
-                    next,
-                )
+                    count: n + 1,
+                }
             }
         },
     }
@@ -213,13 +279,29 @@ fn range_len(before: u64, start: u64, end: u64) -> u64
     (octets::form_len(before) + octets::form_len(size)) as u64
 }
 
+// Nothing is judged yet, and there is some room.
+pub fn unjudged(room: usize) -> Judgement
+    ensures { λ r. ⌜ r ≡ unjudgedIn room ⌝ }
+{
+    Judgement {
+        first: true,
+        sayable: true,
+        rising: false,
+        top: Range { start: 0, end: 0 },
+        start: 0,
+        spare: room as u64,
+    }
+}
+
 // Judges the highest range.
 fn judge_highest(start: u64, end: u64, room: u64) -> Judgement
     ensures { λ r. ⌜ r ≡ begun room (range start end) ⌝ }
 {
     Judgement {
+        first: false,
         sayable: is_sayable(start, end),
         rising: start < end,
+        top: Range { start, end },
         start,
         spare: minus(room, range_len(minus(end, 1), start, end)),
     }
@@ -230,27 +312,51 @@ fn judge_lower(j: Judgement, start: u64, end: u64) -> Judgement
     ensures { λ r. ⌜ r ≡ stepped j (range start end) ⌝ }
 {
     let above = j.start;
+    let top = j.top;
     let gap = minus(minus(above, end), 1);
     Judgement {
+        first: false,
         sayable: j.sayable & is_sayable(start, end),
         rising: j.rising & (end < above) & (start < end),
+        top,
         start,
         spare: minus(j.spare, range_len(gap, start, end)),
     }
 }
 
-// Judges the range at record n, the highest, and all below it, where there is some room.
-fn judge(t: &[u64], n: usize, room: u64) -> Judgement
-    requires { ⌜ RECORD * n + 1 < length (now t) ⌝ }
-    ensures { λ r. ⌜ r ≡ reached stepped (begun room (recordAt (now (t .entry)) n)) (below (now (t .entry)) n) ⌝ }
+// Judges the highest range, or one more.
+fn judge_range(j: Judgement, r: Range) -> Judgement
+    ensures { λ k. ⌜ k ≡ judgedNext j r ⌝ }
 {
-    let mut j = judge_highest(t[RECORD * n], t[RECORD * n + 1], room);
+    let start = r.start;
+    let end = r.end;
+    let first = j.first;
+    if first {
+        return judge_highest(start, end, j.spare);
+    }
+    judge_lower(j, start, end)
+}
+
+// Judges the ranges of the first n records, from the highest down.
+pub fn judge_ranges(ranges: &[Range], n: usize, from: Judgement) -> Judgement
+    requires { ⌜ n ≤ length (now ranges) ⌝ }
+    ensures { λ r. ⌜ r ≡ reached judgedNext from (below (now (ranges .entry)) n) ⌝ }
+{
+    let mut j = from;
     let mut left = n;
     while 0 < left {
         left -= 1;
-        j = judge_lower(j, t[RECORD * left], t[RECORD * left + 1]);
+        j = judge_range(j, ranges[left]);
     }
     j
+}
+
+// The same of a table by value.
+pub fn judge_table(table: [Range; RANGES], n: usize, from: Judgement) -> Judgement
+    requires { ⌜ n ≤ RANGES ⌝ }
+    ensures { λ r. ⌜ r ≡ reached judgedNext from (below table n) ⌝ }
+{
+    judge_ranges(&table, n, from)
 }
 
 // Writes the type byte and the sequence, for which there is room, and answers the place after them.
@@ -273,72 +379,100 @@ fn write_range(out: &mut [u8], at: usize, before: u64, start: u64, end: u64) -> 
     octets::write_varint(out, a, end - 1 - start)
 }
 
-// Writes the ranges of the first n records, for which there is room, from the highest down.
-fn write_lowers(out: &mut [u8], from: usize, t: &[u64], n: usize, highest: u64) -> usize
-    requires { ⌜ RECORD * n ≤ length (now t) ⌝ }
-    requires { ⌜ (fallingBelow highest (below (now t) n) ≡ true) × (highest ≤ LIMIT) ⌝ }
-    requires { ⌜ from + length (lowersBytes highest (below (now t) n)) ≤ length (now out) ⌝ }
-    ensures { λ r. ⌜ (r ≡ from + length (lowersBytes highest (below (now (t .entry)) n)))
-        × (now (out .exit) ≡ splice from (lowersBytes highest (below (now (t .entry)) n)) (now (out .entry))) ⌝ }
+// Writes all of a packet but its lower ranges, of which there are n, where there is room.
+fn write_front(out: &mut [u8], at: usize, seq: u64, top: Range, n: usize) -> usize
+    requires { ⌜ (seq < LIMIT) × (top .start < top .end) × (top .end ≤ LIMIT) × (n < LIMIT) ⌝ }
+    requires { ⌜ at + frontLen seq top n ≤ length (now out) ⌝ }
+    ensures { λ r. ⌜ (r ≡ at + frontLen seq top n) × (now (out .exit) ≡ splice at (frontBytes seq top n) (now (out .entry))) ⌝ }
 {
-    let mut at = from;
-    let mut above = highest;
+    let start = top.start;
+    let end = top.end;
+    let a = write_start(out, at, seq);
+    let b = write_range(out, a, end - 1, start, end);
+    octets::write_varint(out, b, n as u64)
+}
+
+// Writes a lower range, for which there is room.
+fn write_lower(out: &mut [u8], pen: Pen, r: Range) -> Pen
+    requires { ⌜ (r .start < r .end) × (r .end < pen .above) × (pen .above ≤ LIMIT) × (pen .at + rangeLen (gapBelow pen r) r ≤ length (now out)) ⌝ }
+    ensures { λ p. ⌜ (p ≡ penBelow pen r) × (now (out .exit) ≡ splice (pen .at) (rangeBytes (gapBelow pen r) r) (now (out .entry))) ⌝ }
+{
+    let start = r.start;
+    let end = r.end;
+    let above = pen.above;
+    let at = write_range(out, pen.at, above - end - 1, start, end);
+    Pen { at, above: start }
+}
+
+// Writes the ranges of the first n records, which were judged, from the highest down.
+pub fn write_ranges(out: &mut [u8], ranges: &[Range], n: usize, pen: Pen)
+    requires { ⌜ Writable (now ranges) n pen (length (now out)) ⌝ }
+    ensures { λ _. ⌜ now (out .exit) ≡ splice (pen .at) (lowersBytes (pen .above) (below (now (ranges .entry)) n)) (now (out .entry)) ⌝ }
+{
+    let mut p = pen;
     let mut left = n;
     while 0 < left {
         left -= 1;
-        let start = t[RECORD * left];
-        let end = t[RECORD * left + 1];
-        at = write_range(out, at, above - end - 1, start, end);
-        above = start;
+        p = write_lower(out, p, ranges[left]);
     }
-    at
 }
 
-// Writes the packet of the first n + 1 records, which were judged, from the highest range down.
-fn write_ack(out: &mut [u8], at: usize, seq: u64, t: &[u64], n: usize) -> usize
-    requires { ⌜ (RECORD * (n + 1) ≤ length (now t)) × (seq < LIMIT) ⌝ }
-    requires { ⌜ (all sayable (listed (now t) 0 (n + 1)) ≡ true) × (rising (listed (now t) 0 (n + 1)) ≡ true) ⌝ }
-    requires { ⌜ at + length (ackBytes seq (listed (now t) 0 (n + 1))) ≤ length (now out) ⌝ }
-    ensures { λ r. ⌜ (r ≡ at + length (ackBytes seq (listed (now (t .entry)) 0 (n + 1))))
-        × (now (out .exit) ≡ splice at (ackBytes seq (listed (now (t .entry)) 0 (n + 1))) (now (out .entry))) ⌝ }
+// The same of a table by value.
+pub fn write_table(out: &mut [u8], table: [Range; RANGES], n: usize, pen: Pen)
+    requires { ⌜ Writable table n pen (length (now out)) ⌝ }
+    ensures { λ _. ⌜ now (out .exit) ≡ splice (pen .at) (lowersBytes (pen .above) (below table n)) (now (out .entry)) ⌝ }
 {
-    let start = t[RECORD * n];
-    let end = t[RECORD * n + 1];
-    let a = write_start(out, at, seq);
-    let b = write_range(out, a, end - 1, start, end);
-    let c = octets::write_varint(out, b, n as u64);
-    write_lowers(out, c, t, n, start)
+    write_ranges(out, &table, n, pen);
 }
 
-// Writes the packet of the ranges that a table names, or refuses and changes nothing.
-pub fn put_ack(out: &mut [u8], at: usize, packet: Ack, ranges: &[u64]) -> Put
-    ensures { λ r. ⌜ (putOf r ≡ putAck (packet .sequence .0) (now (ranges .entry)) (packet .count) at (length (now (out .entry))))
-        × (now (out .exit) ≡ left (putOf r) at (ackBytes (packet .sequence .0) (listed (now (ranges .entry)) 0 (packet .count))) (now (out .entry))) ⌝ }
+// What a refusal leaves to be written: nothing.
+fn no_front(e: Refusal) -> Front
+    ensures { λ r. ⌜ (putOf (r .answer) ≡ refused (numberOf e)) × (r .pen ≡ record { at = 0; above = 0 }) × (r .left ≡ 0) ⌝ }
+{
+    Front {
+        answer: Put::Refused(e),
+        pen: Pen { at: 0, above: 0 },
+        left: 0,
+    }
+}
+
+// Writes all of a packet but its lower ranges, or refuses and changes nothing. Its ranges stand in a table of `held`
+// records and were judged; `write_ranges` then writes the others.
+pub fn put_front(out: &mut [u8], at: usize, packet: Ack, held: usize, j: Judgement) -> Front
+    requires { ⌜ JudgedOf j (packet .count) held (length (now out) - at) ⌝ }
+    ensures { λ r. ⌜ FrontGives (packet .sequence .0) (packet .count) held at j (now (out .entry)) (now (out .exit)) r ⌝ }
 {
     let count = packet.count;
-    if ranges.len() / RECORD < count {
-        return Put::Refused(Refusal::BadStore);
+    if held < count {
+        return no_front(Refusal::BadStore);
     }
     let seq = packet.sequence.0;
     if LIMIT <= seq {
-        return Put::Refused(Refusal::BadNumber);
+        return no_front(Refusal::BadNumber);
     }
-    if count == 0 {
-        return Put::Refused(Refusal::InvalidAckRange);
-    }
-    let n = count - 1;
-    let j = judge(ranges, n, minus(out.len() as u64, at as u64));
     let sayable = j.sayable;
     if !sayable {
-        return Put::Refused(Refusal::BadNumber);
+        return no_front(Refusal::BadNumber);
     }
     let rising = j.rising;
     if !rising {
-        return Put::Refused(Refusal::InvalidAckRange);
+        return no_front(Refusal::InvalidAckRange);
     }
+    let n = count - 1;
+    let head = (octets::form_len(seq) + octets::form_len(n as u64)) as u64;
+    let spare = j.spare;
     // what is spare has to hold these and the type byte
-    if j.spare <= (octets::form_len(seq) + octets::form_len(n as u64)) as u64 {
-        return Put::Refused(Refusal::BufferTooShort);
+    if spare <= head {
+        return no_front(Refusal::BufferTooShort);
     }
-    Put::To(write_ack(out, at, seq, ranges, n))
+    let top = j.top;
+    let next = write_front(out, at, seq, top, n);
+    Front {
+        answer: Put::To(out.len() - (spare - head - 1) as usize),
+        pen: Pen {
+            at: next,
+            above: top.start,
+        },
+        left: n,
+    }
 }

@@ -1,4 +1,4 @@
-// Cases of `packet::from_bytes`: what was read, and what became of the lent tables.
+// Cases of `packet::decode`: what was read, and what became of the lent tables.
 ghost use mathlib.Core.Path.{_≡_};
 ghost use lib.ListN.{length};
 use cases::say;
@@ -28,8 +28,7 @@ pub fn get(bytes: &[u8], numbers: &[u64]) {
 
 fn get_with(bytes: &[u8], m: usize, r: usize) {
     let mut messages = table();
-    let mut ranges = [say::WORD; 20];
-    get_part(bytes, m, r, &mut messages, &mut ranges);
+    get_part(bytes, m, r, &mut messages);
 }
 
 // A table for 65,536 messages, and some more words.
@@ -39,12 +38,16 @@ fn table() -> [u64; 196612]
     [say::WORD; 196612]
 }
 
-// Reads a packet into the first words of two tables.
-fn get_part(bytes: &[u8], m: usize, r: usize, messages: &mut [u64], ranges: &mut [u64]) {
+// Reads a packet into the first words of a table of messages, and the first records of one of ranges.
+fn get_part(bytes: &[u8], m: usize, r: usize, messages: &mut [u64]) {
     let k = say::words_part(m, messages);
-    let n = say::words_part(r, ranges);
-    let answer = packet::from_bytes(bytes, &mut messages[..k], &mut ranges[..n]);
-    got(answer, bytes, messages, ranges);
+    let mut ranges = [say::WORD; range_words::WORDS];
+    let blank = range_words::from_words(&ranges);
+    let read = packet::decode(bytes, &mut messages[..k], blank, r / 2);
+    let answer = read.answer;
+    let table = read.ranges;
+    range_words::to_words(&mut ranges, table);
+    got(answer, bytes, messages, &ranges);
 }
 
 // Says what was answered and what the tables hold.
@@ -183,9 +186,14 @@ pub fn cut(bytes: &[u8]) {
 // Whether the first n bytes of a packet are refused with 1.
 fn is_short(bytes: &[u8], n: usize) -> bool {
     let mut messages = [say::WORD; 12];
-    let mut ranges = [say::WORD; 8];
     let k = say::part(n, bytes);
-    match packet::from_bytes(&bytes[..k], &mut messages, &mut ranges) {
+    let mut ranges = [say::WORD; range_words::WORDS];
+    let blank = range_words::from_words(&ranges);
+    let read = packet::decode(&bytes[..k], &mut messages, blank, 4);
+    let answer = read.answer;
+    let table = read.ranges;
+    range_words::to_words(&mut ranges, table);
+    match answer {
         Decoded::Whole(_, _) => false,
         Decoded::Refused(e) => (e.number() == 1) & same(&messages, 0, &ranges, 0),
     }

@@ -1,4 +1,4 @@
-// Cases of `packet::to_bytes`: what was written, and what became of the other lent bytes.
+// Cases of `packet::encode`: what was written, and what became of the other lent bytes.
 ghost use mathlib.Core.Path.{_≡_};
 ghost use lib.ListN.{length};
 use cases::say;
@@ -97,7 +97,9 @@ fn space() -> [u8; 131096]
 // Writes a packet to the first bytes of a buffer.
 fn put_part(p: Packet, words: &[u64], store: &[u8], room: usize, out: &mut [u8]) {
     let lent = say::part(room, out);
-    let answer = packet::to_bytes(&mut out[..lent], p, words, words, store);
+    let held = words.len() / 2;
+    let ranges = range_words::from_words(words);
+    let answer = packet::encode(&mut out[..lent], p, words, ranges, held, store);
     said(answer, out);
 }
 

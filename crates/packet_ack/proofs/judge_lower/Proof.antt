@@ -22,7 +22,7 @@ minus-requires-3 c κs = search needs
 
 returns : tie.Need-returns
 returns c =
-    let a = c .before .before .before .before .before .before .before .args in
+    let a = c .before .before .before .before .before .before .before .before .args in
     stepped-is (a .j) (range (a .start) (a .end)) (c .before .before .before .before .is-sayable .ensures) (c .minus3 .ensures) (c .before .range-len .ensures) (c .before .before .before .before .before .minus2 .ensures) (c .before .before .before .before .before .before .minus .ensures)
 
 pub judge-lower-spec : {M : Type 1} → statement M
