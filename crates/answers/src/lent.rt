@@ -1,0 +1,39 @@
+// What is alike at the channel ends: how much of their memory is lent, and their settings.
+use channel::Settings;
+use channel::Setup;
+
+// How many bytes of the two stores of a channel end are lent.
+pub struct Stores {
+    pub small: usize,
+    pub lanes: usize,
+}
+
+// The settings that four numbers give.
+pub fn settings(numbers: &[u64], first: usize) -> Settings {
+    let second = page::after(first);
+    let third = page::after(second);
+    Settings {
+        slots: page::size(numbers, first),
+        lanes: page::size(numbers, second),
+        pieces: page::size(numbers, third),
+        max_memory_usage_bytes: page::size(numbers, page::after(third)),
+    }
+}
+
+// The settings at first.
+pub fn whole() -> Settings {
+    Settings {
+        slots: words::SLOTS,
+        lanes: words::LANES,
+        pieces: words::PIECES,
+        max_memory_usage_bytes: words::MAX_MEMORY,
+    }
+}
+
+// Says what a set-up answered.
+pub fn setup(page: &mut [u8], at: usize, s: Setup) -> usize {
+    match s {
+        Setup::Refused(e) => page::refusal(page, at, e),
+        Setup::Ready => page::text(page, at, b"ready"),
+    }
+}

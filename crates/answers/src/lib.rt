@@ -1,0 +1,4 @@
+// Answers in words that more than one end gives.
+pub mod lent;
+pub mod packets;
+pub mod sending;

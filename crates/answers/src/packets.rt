@@ -1,0 +1,225 @@
+// Packets in words.
+use pack::Written;
+use packet::Decoded;
+use packet::Packet;
+use packet_slice::Slice;
+use packet_small::Small;
+
+// Words of the tables for each message and each range.
+const MESSAGE: usize = 3;
+
+const RANGE: usize = 2;
+
+// Says a decoded packet and how many bytes it has, or the refusal. Its tables are filled.
+pub fn decoded(page: &mut [u8], at: usize, d: Decoded, messages: &[u64], ranges: &[u64]) -> usize {
+    let a = told(page, at, d, messages, ranges);
+    match d {
+        Decoded::Refused(_) => a,
+        Decoded::Whole(_, used) => page::line(page, a, b"; used #", &[used as u64]),
+    }
+}
+
+fn told(page: &mut [u8], at: usize, d: Decoded, messages: &[u64], ranges: &[u64]) -> usize {
+    match d {
+        Decoded::Refused(e) => page::refusal(page, at, e),
+        Decoded::Whole(p, _) => whole(page, at, p, messages, ranges),
+    }
+}
+
+fn whole(page: &mut [u8], at: usize, p: Packet, messages: &[u64], ranges: &[u64]) -> usize {
+    match p {
+        Packet::SmallReliable(s) => {
+            let a = small(page, at, b"SmallReliable", s);
+            rows(
+                page,
+                a,
+                b", id # at # length #",
+                messages,
+                0,
+                MESSAGE,
+                s.count,
+            )
+        }
+        Packet::SmallUnreliable(s) => {
+            let a = small(page, at, b"SmallUnreliable", s);
+            rows(page, a, b", at # length #", messages, 1, MESSAGE, s.count)
+        }
+        Packet::ReliableSlice(s) => slice(page, at, b"ReliableSlice", s),
+        Packet::UnreliableSlice(s) => slice(page, at, b"UnreliableSlice", s),
+        Packet::Ack(s) => {
+            let a = page::line(
+                page,
+                at,
+                b"Ack sequence # ranges #",
+                &[s.sequence.0, s.count as u64],
+            );
+            rows(page, a, b", #..#", ranges, 0, RANGE, s.count)
+        }
+    }
+}
+
+fn small(page: &mut [u8], at: usize, name: &[u8], s: Small) -> usize {
+    let a = page::text(page, at, name);
+    page::line(
+        page,
+        a,
+        b" sequence # channel # messages #",
+        &[s.sequence.0, s.channel_id as u64, s.count as u64],
+    )
+}
+
+fn slice(page: &mut [u8], at: usize, name: &[u8], s: Slice) -> usize {
+    let a = page::text(page, at, name);
+    page::line(
+        page,
+        a,
+        b" sequence # channel # message # slice # of # at # length #",
+        &[
+            s.sequence.0,
+            s.channel_id as u64,
+            s.message_id.0,
+            s.slice_index.0,
+            s.num_slices,
+            s.place as u64,
+            s.len as u64,
+        ],
+    )
+}
+
+// Says some words for each entry of a table, with its numbers in them.
+fn rows(
+    page: &mut [u8],
+    at: usize,
+    s: &[u8],
+    t: &[u64],
+    first: usize,
+    width: usize,
+    count: usize,
+) -> usize {
+    let mut a = at;
+    let mut j = first;
+    let mut left = count;
+    while 0 < left {
+        a = page::line(page, a, s, page::words_from(t, j));
+        j = page::sum(j, width);
+        left -= 1;
+    }
+    a
+}
+
+// So many bytes from a place on; none where they are not all there.
+pub fn bytes_at(s: &[u8], place: usize, len: usize) -> &[u8] {
+    if s.len() < place {
+        return &s[..0];
+    }
+    if s.len() - place < len {
+        return &s[..0];
+    }
+    let end = place + len;
+    &s[place..end]
+}
+
+// The bytes from a place to another; none where they are not there.
+pub fn bytes_to(s: &[u8], place: usize, end: usize) -> &[u8] {
+    if end < place {
+        return &s[..0];
+    }
+    bytes_at(s, place, end - place)
+}
+
+// Begins the k-th further line of an answer, behind the number of its line.
+pub fn numbered(page: &mut [u8], at: usize, n: u64, k: usize) -> usize {
+    page::line(page, at, b"#.#: ", &[n, k as u64])
+}
+
+// The i-th message of a packet.
+pub fn message_at<'a>(bytes: &'a [u8], messages: &[u64], i: usize) -> &'a [u8] {
+    let j = page::after(page::sum(i, page::sum(i, i)));
+    bytes_at(
+        bytes,
+        page::size(messages, j),
+        page::size(messages, page::after(j)),
+    )
+}
+
+// The id of the i-th message of a packet.
+pub fn id_at(messages: &[u64], i: usize) -> u64 {
+    page::word(messages, page::sum(i, page::sum(i, i)))
+}
+
+// The k-th packet of a round, by its table.
+pub fn kept<'a>(out: &'a [u8], table: &[u64], k: usize) -> &'a [u8] {
+    let j = page::sum(k, k);
+    bytes_at(out, page::size(table, j), page::size(table, page::after(j)))
+}
+
+// Says what a round wrote.
+pub fn sent(page: &mut [u8], at: usize, w: Written) -> usize {
+    page::line(
+        page,
+        at,
+        b"sent # packets, # bytes, next sequence #, spent #",
+        &[
+            w.packets as u64,
+            w.bytes as u64,
+            w.next_sequence.0,
+            w.budget.spent,
+        ],
+    )
+}
+
+// A line for each packet of a round, behind the number of the round's line.
+pub fn listed(
+    page: &mut [u8],
+    at: usize,
+    n: u64,
+    packets: usize,
+    out: &[u8],
+    table: &[u64],
+    messages: &mut [u64],
+    ranges: &mut [u64],
+) -> usize {
+    let mut a = at;
+    let mut k = 0;
+    while k < packets {
+        a = taken_apart(page, a, n, k, out, table, messages, ranges);
+        k += 1;
+    }
+    a
+}
+
+// The k-th packet of a round as bytes and in words.
+fn taken_apart(
+    page: &mut [u8],
+    at: usize,
+    n: u64,
+    k: usize,
+    out: &[u8],
+    table: &[u64],
+    messages: &mut [u64],
+    ranges: &mut [u64],
+) -> usize {
+    let s = kept(out, table, k);
+    let start = page::word(table, page::sum(k, k));
+    let a = page::line(
+        page,
+        at,
+        b"#.#: at # length # ",
+        &[n, k as u64, start, s.len() as u64],
+    );
+    let b = page::bytes(page, a, s);
+    let c = page::text(page, b, b" ");
+    let d = read(s, messages, ranges);
+    let e = told(page, c, d, messages, ranges);
+    page::text(page, e, b"\n")
+}
+
+// Reads a packet into tables of words.
+pub fn read(bytes: &[u8], messages: &mut [u64], ranges: &mut [u64]) -> Decoded {
+    let before = range_words::from_words(ranges);
+    let d = packet::decode(bytes, messages, before, ranges.len() / 2);
+    let answer = d.answer;
+    let after = d.ranges;
+    range_words::to_words(ranges, after);
+    answer
+}

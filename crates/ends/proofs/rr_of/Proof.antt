@@ -1,0 +1,12 @@
+-- `ends::rr_of` meets its contract: by what it is to be sound. Assumes nothing.
+use borrow.Author.Needs.{needs}
+use Rattle.ends.specs.Sound.{Sound}
+use Rattle.ends.proofs.rr_of.Statement.{statement}
+use Rattle.ends.proofs.rr_of.Tie as tie
+
+returns : tie.Need-returns
+unfolding Sound
+returns c = search needs
+
+pub rr-of-spec : {M : Type 1} → statement M
+rr-of-spec = tie.close (tie.spec returns)

@@ -1,0 +1,12 @@
+-- `ends::ru_of` meets its contract: by what it is to be sound. Assumes nothing.
+use borrow.Author.Needs.{needs}
+use Rattle.ends.specs.Sound.{Sound}
+use Rattle.ends.proofs.ru_of.Statement.{statement}
+use Rattle.ends.proofs.ru_of.Tie as tie
+
+returns : tie.Need-returns
+unfolding Sound
+returns c = search needs
+
+pub ru-of-spec : {M : Type 1} → statement M
+ru-of-spec = tie.close (tie.spec returns)
