@@ -264,7 +264,7 @@ fn senders(all: &mut All, source: Source) {
                     move |l| l.su_round(count, black_box(&bytes)),
                     move |l| theirs::su_round(count, black_box(&m), &mut l.out, &mut l.table),
                 );
-                // the two are compiled as one, so a difference would say nothing
+                // with the queueing subtracted, short messages came out below zero
                 all.row("Queueing and a full round", label, 1, &round, &new);
             }
         }
