@@ -4,8 +4,6 @@ use ends::Call;
 use ends::Ends;
 use ends::Told;
 
-pub mod memory;
-
 // The end that a line names.
 pub enum Which {
     Wire,

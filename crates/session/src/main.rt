@@ -3,8 +3,6 @@
 mod request;
 mod turns;
 
-use calls::memory;
-
 fn main() {
     let mut input = [0; memory::INPUT];
     let mut numbers = [0; memory::NUMBERS];

@@ -1,6 +1,6 @@
 // The memory of a session. Each end's part lies in a larger buffer, one end's behind the other's.
 ghost use lib.ListN.{length};
-ghost use Rattle.calls.specs.Memory.{SpanGives};
+ghost use Rattle.memory.specs.Memory.{SpanGives};
 use words::PIECES;
 use words::SLICE_SIZE;
 use words::SLOTS;
