@@ -2,3 +2,10 @@
 pub mod lent;
 pub mod packets;
 pub mod sending;
+
+// The k-th call of an end, in the n-th line of a script; its answer goes to a place of the page.
+pub struct Call {
+    pub k: usize,
+    pub n: u64,
+    pub at: usize,
+}
