@@ -1,6 +1,7 @@
 #!/usr/bin/env python3
 """Document 01 as a plain model that answers scripts (docs/SCRIPT.md): a third voice beside the program
-and renet, to tell which of two is at fault. It follows the document's words, not anybody's code."""
+and renet, to tell which of two is at fault. It follows the document's words, not anybody's code. With the
+argument `limits` it says what the program `limits` must print."""
 import re
 import sys
 
@@ -267,6 +268,7 @@ class Wire:
         rows = [table[3 * i:3 * i + 3] for i in range(count)]
         refuse(10, any(place + n > len(store) for _, place, n in rows))
         refuse(13, seq >= LIMIT or ids and any(i >= LIMIT for i, _, _ in rows))
+        refuse(12, count > 65535)
         s = bytes([0 if ids else 1]) + varint(seq) + bytes([channel]) + count.to_bytes(2, "big")
         for ident, place, n in rows:
             s += (varint(ident) if ids else b"") + varint(n) + store[place:place + n]
@@ -965,5 +967,52 @@ def run(script, out):
             out.write(f"{n}.{k}: {text}\n")
 
 
+def limits(out):
+    """The cases of the program `limits`: the most messages that a packet counts, and one more, all empty but
+    the last; and one message on both sides of where its length takes four bytes."""
+    wire, word = Wire(), 0xa5a5a5a5a5a5a5a5
+
+    def numbered(told):
+        """A refusal with its number said once more; of what was written, only how much."""
+        return re.sub("^(written [0-9]+) .*", r"\1", re.sub("^(refused ([0-9]+) .*)", r"\1, number \2", told))
+
+    def write(kind, seq, count, words, last, room):
+        wire.out = Lent(131088)
+        wire.out.len = room
+        told = guarded(wire.small, kind == 0, seq, 0, count, b"a" * 16384, [0] * (words - 1) + [last])
+        out.write(f"write type {kind} sequence {seq} messages {count}, of {words} words, last {last} to {room} bytes: ")
+        out.write(f"{numbered(told)}; digest {wire.out.digest()}\n")
+
+    def words_of(s):
+        kind, head, entries, used = wire.read(s)
+        return f"{packet_words(kind, head, entries).split(',')[0]}; used {used}"
+
+    def read(kind, n, words):
+        wire.messages = Lent(196608, word)
+        wire.messages.len = words
+        told = guarded(words_of, (bytes([kind, 0, 0, 255, 255]) + bytes(131070))[:n])
+        out.write(f"read type {kind} from {n} bytes, to {words} words: {numbered(told)}; digest {wire.messages.digest()}\n")
+
+    for kind, each in (0, 2), (1, 1):
+        for n, form in (16383, 2), (16384, 4):
+            for less in 0, 1:
+                write(kind, 0, 1, 3, n, 4 + each + form + n - less)
+        most = 5 + each * 65535
+        read(kind, most, 196605)
+        read(kind, most, 196604)
+        read(kind, most - 1, 196605)
+        write(kind, 0, 65535, 196605, 0, most)
+        write(kind, 0, 65535, 196605, 0, most - 1)
+        write(kind, 0, 65536, 196608, 0, 131088)
+        write(kind, 0, 65536, 196608, 0, 0)
+        write(kind, LIMIT, 65536, 196608, 0, 131088)
+        write(kind, 0, 65536, 196607, 0, 131088)
+        write(kind, 0, 65536, 196608, 16385, 131088)
+        write(kind, 0, 65535, 196608, 16385, 131088)
+
+
 if __name__ == "__main__":
-    run(sys.stdin.buffer.read(), sys.stdout)
+    if sys.argv[1:] == ["limits"]:
+        limits(sys.stdout)
+    else:
+        run(sys.stdin.buffer.read(), sys.stdout)

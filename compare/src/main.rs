@@ -5,7 +5,7 @@
 //!     compare run SEED COUNT LINES OURS  runs COUNT scripts on both sides and reports each difference
 //!     compare shrink FILE OURS           the smallest part of a script on which the sides differ
 //!     compare check FILE ..              holds renet's answers to those that stand behind `#=`
-//!     compare vectors < CASES            answers the cases of the program `vectors`
+//!     compare limits                     answers the cases of the program `limits`
 //!     compare network SEED COUNT OURS    plays demand 3 over a simulated line
 //!     compare differences                what renet does where it can't be followed
 
@@ -13,11 +13,11 @@ mod differences;
 mod ends;
 mod generate;
 mod layer;
+mod limits;
 mod network;
 mod run;
 mod script;
 mod session;
-mod vectors;
 mod wire;
 
 use layer::Tally;
@@ -31,7 +31,7 @@ fn main() -> ExitCode {
     let number = |s: &str| s.parse::<u64>().expect("a number");
     match args[..] {
         ["answer"] => answer(),
-        ["vectors"] => vectors(),
+        ["limits"] => print!("{}", limits::answers()),
         ["differences"] => differences::tell(),
         ["check", ref files @ ..] => return run::check(files),
         ["generate", seed] => print!("{}", generate::script(number(seed), 1_000)),
@@ -42,17 +42,11 @@ fn main() -> ExitCode {
         ["network", seed, count, ours] => return network::run(number(seed), number(count), ours),
         ["shrink", file, ours] => return run::shrink_file(file, ours),
         _ => {
-            eprintln!("compare answer | generate SEED [LINES] | run SEED COUNT LINES OURS | shrink FILE OURS | check FILE .. | vectors | network SEED COUNT OURS | differences");
+            eprintln!("compare answer | generate SEED [LINES] | run SEED COUNT LINES OURS | shrink FILE OURS | check FILE .. | limits | network SEED COUNT OURS | differences");
             return ExitCode::from(2);
         }
     }
     ExitCode::SUCCESS
-}
-
-fn vectors() {
-    let mut cases = String::new();
-    std::io::stdin().read_to_string(&mut cases).expect("standard input");
-    print!("{}", vectors::answers(&cases));
 }
 
 fn answer() {

@@ -19,7 +19,7 @@ impl Read {
     }
 
     /// What stands in the table of the packet's kind.
-    pub fn records(&self) -> Vec<u64> {
+    fn records(&self) -> Vec<u64> {
         let ids: Vec<u64> = match &self.packet {
             Packet::SmallReliable { messages, .. } => messages.iter().map(|(id, _)| *id).collect(),
             Packet::SmallUnreliable { messages, .. } => vec![0; messages.len()],
@@ -121,7 +121,7 @@ pub fn encoded(packet: &Packet) -> Vec<u8> {
 }
 
 /// What renet writes to so many bytes, or the number of its refusal. What a refused write leaves is not kept.
-pub fn write(packet: &Packet, room: usize) -> Result<Vec<u8>, usize> {
+fn write(packet: &Packet, room: usize) -> Result<Vec<u8>, usize> {
     let mut out = vec![0; room];
     let n = packet.to_bytes(&mut OctetsMut::with_slice(&mut out)).map_err(number)?;
     out.truncate(n);
@@ -129,7 +129,7 @@ pub fn write(packet: &Packet, room: usize) -> Result<Vec<u8>, usize> {
 }
 
 /// What renet reads, and where its payloads lie; 11 where a table has too few records.
-pub fn read(s: &[u8], messages: usize, ranges: usize, tally: &mut Tally) -> Result<Read, usize> {
+fn read(s: &[u8], messages: usize, ranges: usize, tally: &mut Tally) -> Result<Read, usize> {
     octets::runs();
     let mut b = Octets::with_slice(s);
     let packet = Packet::from_bytes(&mut b).map_err(number)?;
