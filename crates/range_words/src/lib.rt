@@ -1,4 +1,6 @@
 // Ranges as words: a start and an end for each, as a script writes them.
+ghost use mathlib.Core.Path.{_≡_};
+ghost use Rattle.range_words.specs.Words.{tableOf, setDown};
 use packet_ack::RANGES;
 use packet_ack::Range;
 
@@ -6,7 +8,9 @@ use packet_ack::Range;
 pub const WORDS: usize = 2 * RANGES;
 
 // The ranges that some words name, as far as a table goes.
-pub fn from_words(words: &[u64]) -> [Range; RANGES] {
+pub fn from_words(words: &[u64]) -> [Range; RANGES]
+    ensures { λ r. ⌜ r ≡ tableOf (now (words .entry)) ⌝ }
+{
     let blank = Range { start: 0, end: 0 };
     let mut t = [blank; RANGES];
     let mut i = 0;
@@ -25,7 +29,9 @@ pub fn from_words(words: &[u64]) -> [Range; RANGES] {
 }
 
 // Sets down the first ranges of a table, as many as the words have room for.
-pub fn to_words(words: &mut [u64], t: [Range; RANGES]) {
+pub fn to_words(words: &mut [u64], t: [Range; RANGES])
+    ensures { λ _. ⌜ now (words .exit) ≡ setDown t (now (words .entry)) ⌝ }
+{
     let mut i = 0;
     while i < RANGES {
         if words.len() / 2 <= i {
