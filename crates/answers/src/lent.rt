@@ -1,4 +1,7 @@
 // What is alike at the channel ends: how much of their memory is lent, and their settings.
+ghost use mathlib.Core.Path.{_≡_};
+ghost use Rattle.page.specs.Page.{sheet};
+ghost use Rattle.answers.specs.Lent.{settingsAt, wholeSettings, setupSaid};
 use channel::Settings;
 use channel::Setup;
 
@@ -9,7 +12,9 @@ pub struct Stores {
 }
 
 // The settings that four numbers give.
-pub fn settings(numbers: &[u64], first: usize) -> Settings {
+pub fn settings(numbers: &[u64], first: usize) -> Settings
+    ensures { λ r. ⌜ r ≡ settingsAt (now (numbers .entry)) first ⌝ }
+{
     let second = page::after(first);
     let third = page::after(second);
     Settings {
@@ -21,7 +26,9 @@ pub fn settings(numbers: &[u64], first: usize) -> Settings {
 }
 
 // The settings at first.
-pub fn whole() -> Settings {
+pub fn whole() -> Settings
+    ensures { λ r. ⌜ r ≡ wholeSettings ⌝ }
+{
     Settings {
         slots: words::SLOTS,
         lanes: words::LANES,
@@ -31,7 +38,9 @@ pub fn whole() -> Settings {
 }
 
 // Says what a set-up answered.
-pub fn setup(page: &mut [u8], at: usize, s: Setup) -> usize {
+pub fn setup(page: &mut [u8], at: usize, s: Setup) -> usize
+    ensures { λ r. ⌜ sheet (now (page .exit)) r ≡ setupSaid s (sheet (now (page .entry)) at) ⌝ }
+{
     match s {
         Setup::Refused(e) => page::refusal(page, at, e),
         Setup::Ready => page::text(page, at, b"ready"),

@@ -1,4 +1,7 @@
 // What is alike at the two senders.
+ghost use mathlib.Core.Path.{_≡_};
+ghost use Rattle.page.specs.Page.{sheet};
+ghost use Rattle.answers.specs.Lent.{allStores, allOut, lentStores, lentOut, digestSaid};
 use crate::lent::Stores;
 
 // How many of the bytes and of the table's words are lent, and how many packets stand in them.
@@ -9,30 +12,38 @@ pub struct Out {
 }
 
 // What is lent at first.
-pub fn all_stores() -> Stores {
+pub fn all_stores() -> Stores
+    ensures { λ r. ⌜ r ≡ allStores ⌝ }
+{
     Stores {
-        small: 76_800,
-        lanes: 192_000,
+        small: memory::SMALL,
+        lanes: memory::LANES,
     }
 }
 
-pub fn all_out() -> Out {
+pub fn all_out() -> Out
+    ensures { λ r. ⌜ r ≡ allOut ⌝ }
+{
     Out {
-        bytes: 280_000,
-        table: 512,
+        bytes: memory::OUT,
+        table: memory::TABLE,
         packets: 0,
     }
 }
 
 // What is lent by four numbers. The packets are kept.
-pub fn lent_stores(numbers: &[u64]) -> Stores {
+pub fn lent_stores(numbers: &[u64]) -> Stores
+    ensures { λ r. ⌜ r ≡ lentStores (now (numbers .entry)) ⌝ }
+{
     Stores {
         small: page::size(numbers, 0),
         lanes: page::size(numbers, 1),
     }
 }
 
-pub fn lent_out(numbers: &[u64], o: Out) -> Out {
+pub fn lent_out(numbers: &[u64], o: Out) -> Out
+    ensures { λ r. ⌜ r ≡ lentOut (now (numbers .entry)) o ⌝ }
+{
     Out {
         bytes: page::size(numbers, 2),
         table: page::size(numbers, 3),
@@ -41,7 +52,9 @@ pub fn lent_out(numbers: &[u64], o: Out) -> Out {
 }
 
 // Now so many packets are kept.
-pub fn keeping(o: Out, packets: usize) -> Out {
+pub fn keeping(o: Out, packets: usize) -> Out
+    ensures { λ r. ⌜ r ≡ record { bytes = o .bytes; table = o .table; packets = packets } ⌝ }
+{
     Out {
         bytes: o.bytes,
         table: o.table,
@@ -57,7 +70,9 @@ pub fn digest(
     lanes: &[u8],
     out: &[u8],
     table: &[u64],
-) -> usize {
+) -> usize
+    ensures { λ r. ⌜ sheet (now (page .exit)) r ≡ digestSaid (now (small .entry)) (now (lanes .entry)) (now (out .entry)) (now (table .entry)) (sheet (now (page .entry)) at) ⌝ }
+{
     page::line(
         page,
         at,
