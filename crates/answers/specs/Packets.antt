@@ -23,10 +23,10 @@ use Rattle.range_words.specs.Words.{tableOf, setDown}
 -- ---- a packet in words
 
 -- what stands before the messages
-unfoldable pub smallSaid : List ℕ → Small → Sheet → Sheet
+abbrev pub smallSaid : List ℕ → Small → Sheet → Sheet
 smallSaid name s sh = lined (ascii " sequence # channel # messages #") (s .sequence .0 ∷ s .«channel_id» ∷ s .count ∷ []) (said name sh)
 
-unfoldable pub sliceSaid : List ℕ → Slice → Sheet → Sheet
+abbrev pub sliceSaid : List ℕ → Slice → Sheet → Sheet
 sliceSaid name s sh =
     lined (ascii " sequence # channel # message # slice # of # at # length #")
     (s .sequence .0 ∷ s .«channel_id» ∷ s .«message_id» .0 ∷ s .«slice_index» .0 ∷ s .«num_slices» ∷ s .place ∷ s .len ∷ [])

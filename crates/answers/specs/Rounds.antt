@@ -1,5 +1,5 @@
 -- The packets of a round in words. docs/SCRIPT.md, "Packets". Assumes nothing.
-use Prim.Native.Nat.{ℕ, _+_, _*_}
+use Prim.Native.Nat.{ℕ, suc, _+_, _*_}
 use mathlib.Core.Path.{_≡_}
 use mathlib.Core.List.{List, [], _∷_}
 use lib.ListN.{length, getD}
@@ -10,7 +10,7 @@ use Rattle.pack.specs.declared.Written.{Written}
 use Rattle.answers.specs.Packets.{toldSaid, Reads, bytesAt}
 
 -- what a round wrote
-unfoldable pub sentSaid : Written → Sheet → Sheet
+abbrev pub sentSaid : Written → Sheet → Sheet
 sentSaid w sh =
     lined (ascii "sent # packets, # bytes, next sequence #, spent #")
     (w .packets ∷ w .bytes ∷ w .«next_sequence» .0 ∷ w .budget .spent ∷ [])
@@ -27,7 +27,7 @@ unfoldable pub keptAt : List ℕ → List ℕ → ℕ → List ℕ
 keptAt out table k = bytesAt out (startAt table k) (getD table (ENTRY * k + 1) 0)
 
 -- the k-th further line of an answer, behind the number of its line
-unfoldable pub numberSaid : ℕ → ℕ → Sheet → Sheet
+abbrev pub numberSaid : ℕ → ℕ → Sheet → Sheet
 numberSaid n k sh = lined (ascii "#.#: ") (n ∷ k ∷ []) sh
 
 -- the k-th packet of a round as bytes, bs from a start on
@@ -52,4 +52,4 @@ pub record Apart (n : ℕ) (out table : List ℕ) (k : ℕ) (a b : Desk) : Type 
 -- the lines of the first k packets, one after the other
 pub data Listed (n : ℕ) (out table : List ℕ) : ℕ → Desk → Desk → Type 0 where
   none : {a : Desk} → Listed n out table 0 a a
-  more : {k : ℕ} {a b c : Desk} → Listed n out table k a b → Apart n out table k b c → Listed n out table (k + 1) a c
+  more : {k : ℕ} {a b c : Desk} → Listed n out table k a b → Apart n out table k b c → Listed n out table (suc k) a c

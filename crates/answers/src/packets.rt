@@ -1,9 +1,6 @@
 // Packets in words.
 ghost use mathlib.Core.Path.{_≡_};
-ghost use mathlib.Core.List.{[], _∷_};
-ghost use lib.ListN.{drop};
-ghost use Rattle.script.specs.Ascii.{ascii};
-ghost use Rattle.page.specs.Page.{sheet};
+ghost use Rattle.page.specs.Page.{sheet, said, lined};
 ghost use Rattle.answers.specs.Packets.{smallSaid, sliceSaid, rowsSaid, packetSaid, toldSaid, decodedSaid, Reads, bytesAt, bytesTo, messageAt, idAt};
 ghost use Rattle.answers.specs.Rounds.{sentSaid, startAt, keptAt, numberSaid, shownSaid, desk, Apart, Listed};
 use pack::Written;
@@ -68,10 +65,10 @@ fn whole(page: &mut [u8], at: usize, p: Packet, messages: &[u64], ranges: &[u64]
 fn small(page: &mut [u8], at: usize, name: &[u8], s: Small) -> usize
     ensures { λ r. ⌜ sheet (now (page .exit)) r ≡ smallSaid (now (name .entry)) s (sheet (now (page .entry)) at) ⌝ }
 {
-    let a = page::text(page, at, name);
-    page::line(
+    named(
         page,
-        a,
+        at,
+        name,
         b" sequence # channel # messages #",
         &[s.sequence.0, s.channel_id as u64, s.count as u64],
     )
@@ -80,10 +77,10 @@ fn small(page: &mut [u8], at: usize, name: &[u8], s: Small) -> usize
 fn slice(page: &mut [u8], at: usize, name: &[u8], s: Slice) -> usize
     ensures { λ r. ⌜ sheet (now (page .exit)) r ≡ sliceSaid (now (name .entry)) s (sheet (now (page .entry)) at) ⌝ }
 {
-    let a = page::text(page, at, name);
-    page::line(
+    named(
         page,
-        a,
+        at,
+        name,
         b" sequence # channel # message # slice # of # at # length #",
         &[
             s.sequence.0,
@@ -95,6 +92,14 @@ fn slice(page: &mut [u8], at: usize, name: &[u8], s: Slice) -> usize
             s.len as u64,
         ],
     )
+}
+
+// Says a name, and some words with numbers behind it.
+fn named(page: &mut [u8], at: usize, name: &[u8], s: &[u8], numbers: &[u64]) -> usize
+    ensures { λ r. ⌜ sheet (now (page .exit)) r ≡ lined (now (s .entry)) (now (numbers .entry)) (said (now (name .entry)) (sheet (now (page .entry)) at)) ⌝ }
+{
+    let a = page::text(page, at, name);
+    page::line(page, a, s, numbers)
 }
 
 // Says some words for each entry of a table, with its numbers in them.
