@@ -17,10 +17,11 @@ use Rattle.answers.specs.declared.sending.Out.{Out}
 unfoldable pub settingsAt : List ℕ → ℕ → Settings
 settingsAt ns i = record { slots = getD ns i 0; lanes = getD ns (i + 1) 0; pieces = getD ns (i + 2) 0; «max_memory_usage_bytes» = getD ns (i + 3) 0 }
 
--- at first
+-- those at first
 abbrev pub wholeSettings : Settings
 wholeSettings = record { slots = SLOTS; lanes = w.LANES; pieces = PIECES; «max_memory_usage_bytes» = MAX_MEMORY }
 
+-- what a `new` answers
 unfoldable pub setupSaid : Setup → Sheet → Sheet
 setupSaid Ready sh = said (ascii "ready") sh
 setupSaid (Refused e) sh = saidRefusal e sh
@@ -45,14 +46,14 @@ allStores = record { small = SMALL; lanes = LANES }
 abbrev pub allOut : Out
 allOut = record { bytes = OUT; table = TABLE; packets = 0 }
 
--- SMALL LANES OUT TABLE; the packets are kept
+-- what is lent by SMALL LANES OUT TABLE; the packets are kept
 abbrev pub lentStores : List ℕ → Stores
 lentStores ns = record { small = getD ns 0 0; lanes = getD ns 1 0 }
 
 abbrev pub lentOut : List ℕ → Out → Out
 lentOut ns o = record { bytes = getD ns 2 0; table = getD ns 3 0; packets = o .packets }
 
--- of a sender
+-- a digest of each memory of a sender
 unfoldable pub digestSaid : List ℕ → List ℕ → List ℕ → List ℕ → Sheet → Sheet
 digestSaid small lanes out table sh =
     lined (ascii "small # lanes # out # table #")

@@ -22,10 +22,11 @@ use Rattle.range_words.specs.Words.{tableOf, setDown}
 
 -- ---- a packet in words
 
--- what stands before the messages
+-- the name of a kind, and what stands before its messages
 abbrev pub smallSaid : List ℕ → Small → Sheet → Sheet
 smallSaid name s sh = lined (ascii " sequence # channel # messages #") (s .sequence .0 ∷ s .«channel_id» ∷ s .count ∷ []) (said name sh)
 
+-- the name of a kind, and its piece
 abbrev pub sliceSaid : List ℕ → Slice → Sheet → Sheet
 sliceSaid name s sh =
     lined (ascii " sequence # channel # message # slice # of # at # length #")
@@ -81,9 +82,10 @@ bytesAt s place len = pick (leb (place + len) (length s)) (take len (drop place 
 unfoldable pub bytesTo : List ℕ → ℕ → ℕ → List ℕ
 bytesTo s place end = pick (leb place end) (bytesAt s place (end - place)) []
 
--- the i-th message, by its place and length in the table, and its id
+-- the i-th message, by its place and its length in the table
 unfoldable pub messageAt : List ℕ → List ℕ → ℕ → List ℕ
 messageAt bs ms i = bytesAt bs (getD ms (RECORD * i + 1) 0) (getD ms (RECORD * i + 2) 0)
 
+-- its id
 unfoldable pub idAt : List ℕ → ℕ → ℕ
 idAt ms i = getD ms (RECORD * i) 0

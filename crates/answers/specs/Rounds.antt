@@ -20,17 +20,19 @@ sentSaid w sh =
 abbrev pub ENTRY : ℕ
 ENTRY = 2
 
+-- where the k-th packet starts
 unfoldable pub startAt : List ℕ → ℕ → ℕ
 startAt table k = getD table (ENTRY * k) 0
 
+-- its bytes
 unfoldable pub keptAt : List ℕ → List ℕ → ℕ → List ℕ
 keptAt out table k = bytesAt out (startAt table k) (getD table (ENTRY * k + 1) 0)
 
--- the k-th further line of an answer, behind the number of its line
+-- the beginning of the k-th further line of an answer, behind the number n of its line
 abbrev pub numberSaid : ℕ → ℕ → Sheet → Sheet
 numberSaid n k sh = lined (ascii "#.#: ") (n ∷ k ∷ []) sh
 
--- the k-th packet of a round as bytes, bs from a start on
+-- the same for the k-th packet of a round, and its bytes bs from a start on
 unfoldable pub shownSaid : ℕ → ℕ → ℕ → List ℕ → Sheet → Sheet
 shownSaid n k start bs sh = said (ascii " ") (spelt bs (lined (ascii "#.#: at # length # ") (n ∷ k ∷ start ∷ length bs ∷ []) sh))
 

@@ -26,6 +26,7 @@ pub fn decoded(page: &mut [u8], at: usize, d: Decoded, messages: &[u64], ranges:
     }
 }
 
+// Says a decoded packet, or the refusal.
 fn told(page: &mut [u8], at: usize, d: Decoded, messages: &[u64], ranges: &[u64]) -> usize
     ensures { λ r. ⌜ sheet (now (page .exit)) r ≡ toldSaid d (now (messages .entry)) (now (ranges .entry)) (sheet (now (page .entry)) at) ⌝ }
 {
@@ -35,6 +36,7 @@ fn told(page: &mut [u8], at: usize, d: Decoded, messages: &[u64], ranges: &[u64]
     }
 }
 
+// Says a packet of any kind.
 fn whole(page: &mut [u8], at: usize, p: Packet, messages: &[u64], ranges: &[u64]) -> usize
     ensures { λ r. ⌜ sheet (now (page .exit)) r ≡ packetSaid p (now (messages .entry)) (now (ranges .entry)) (sheet (now (page .entry)) at) ⌝ }
 {
@@ -62,6 +64,7 @@ fn whole(page: &mut [u8], at: usize, p: Packet, messages: &[u64], ranges: &[u64]
     }
 }
 
+// Says a packet of small messages, but for these.
 fn small(page: &mut [u8], at: usize, name: &[u8], s: Small) -> usize
     ensures { λ r. ⌜ sheet (now (page .exit)) r ≡ smallSaid (now (name .entry)) s (sheet (now (page .entry)) at) ⌝ }
 {
@@ -74,6 +77,7 @@ fn small(page: &mut [u8], at: usize, name: &[u8], s: Small) -> usize
     )
 }
 
+// Says a packet of one piece.
 fn slice(page: &mut [u8], at: usize, name: &[u8], s: Slice) -> usize
     ensures { λ r. ⌜ sheet (now (page .exit)) r ≡ sliceSaid (now (name .entry)) s (sheet (now (page .entry)) at) ⌝ }
 {
