@@ -1,7 +1,44 @@
 // The calls that an end has, and their arguments.
+ghost use mathlib.Core.Path.{_≡_};
+ghost use mathlib.Core.List.{List};
+ghost use Prim.Native.Nat.{ℕ};
+ghost use lib.ListN.{length, set};
+ghost use lib.Dec.{ltb};
+ghost use Rattle.script.specs.Numbers.{numberOf};
+ghost use Rattle.script.specs.Bytes.{bytesOf};
+ghost use Rattle.page.specs.Page.{sheet, said};
+ghost use Rattle.arguments.specs.Arguments.{leaves, found, mostOf, placeAfter, numberTaken, bytesTaken, argumentTaken, endedOf, furtherTaken, takenBy, begun, takenApart};
+ghost use Rattle.arguments.specs.Said.{faultOf, badSaid};
+ghost use Rattle.arguments.specs.Sizes.{MORE};
 use script::Bytes;
 use script::Number;
 use script::Word;
+use words::PIECES;
+use words::SLICE_SIZE;
+use words::SLOTS;
+
+// The largest channel, and the largest two-byte count.
+const CHANNEL: usize = 255;
+
+const COUNT: usize = 65_535;
+
+// What there is to be lent to a channel end: its two stores, and of a sender `out` and `table`.
+pub const SMALL: usize = SLOTS * SLICE_SIZE;
+
+pub const LANE: usize = PIECES * SLICE_SIZE;
+
+pub const LANES: usize = words::LANES * LANE;
+
+pub const OUT: usize = 280_000;
+
+pub const TABLE: usize = 512;
+
+// What there is to be lent to the wire: the tables of messages and of ranges, and `out`.
+pub const MESSAGES: usize = 192;
+
+pub const RANGES: usize = 128;
+
+pub const WIRE: usize = 2_048;
 
 // The most further numbers of a call that takes some.
 const MORE: usize = 192;
@@ -33,7 +70,7 @@ struct Taken {
 
 enum Step {
     Good(Taken),
-    Bad(Fault),
+    Faulty(Fault),
 }
 
 enum Found {
@@ -50,7 +87,9 @@ pub fn taken_apart(
     from: usize,
     numbers: &mut [u64],
     bytes: &mut [u8],
-) -> Read {
+) -> Read
+    ensures { λ r. ⌜ leaves r (now (numbers .exit)) (now (bytes .exit)) ≡ takenApart (now (calls .entry)) (now (line .entry)) from (now (numbers .entry)) (now (bytes .entry)) ⌝ }
+{
     let w = script::next_word(line, from);
     let Found::At(k, form) = find(calls, script::letters(line, w)) else {
         return Read::NoCall;
@@ -59,7 +98,9 @@ pub fn taken_apart(
 }
 
 // A call by its name, and the form of its arguments.
-fn find(calls: &[u8], name: &[u8]) -> Found {
+fn find(calls: &[u8], name: &[u8]) -> Found
+    ensures { λ r. ⌜ r ≡ found (now (calls .entry)) (now (name .entry)) ⌝ }
+{
     let mut at = 0;
     let mut k = 0;
     while k < calls.len() {
@@ -77,7 +118,9 @@ fn find(calls: &[u8], name: &[u8]) -> Found {
     Found::Nothing
 }
 
-fn has(w: Word) -> bool {
+fn has(w: Word) -> bool
+    ensures { λ r. ⌜ r ≡ ltb (w .start) (w .end) ⌝ }
+{
     w.start < w.end
 }
 
@@ -89,7 +132,9 @@ fn take(
     from: usize,
     numbers: &mut [u64],
     bytes: &mut [u8],
-) -> Read {
+) -> Read
+    ensures { λ r. ⌜ leaves r (now (numbers .exit)) (now (bytes .exit)) ≡ takenBy k (now (form .entry)) (now (line .entry)) (begun from) (now (numbers .entry)) (now (bytes .entry)) ⌝ }
+{
     let mut t = Taken {
         at: from,
         count: 0,
@@ -105,7 +150,7 @@ fn take(
         let s = argument(c, line, t, numbers, bytes);
         match s {
             Step::Good(next) => t = next,
-            Step::Bad(e) => return Read::Bad(page::after(t.count), e),
+            Step::Faulty(e) => return Read::Bad(page::after(t.count), e),
         }
         i += 1;
     }
@@ -113,13 +158,15 @@ fn take(
 }
 
 // Takes one argument of a form.
-fn argument(form: u8, line: &[u8], t: Taken, numbers: &mut [u64], bytes: &mut [u8]) -> Step {
+fn argument(form: u8, line: &[u8], t: Taken, numbers: &mut [u64], bytes: &mut [u8]) -> Step
+    ensures { λ r. ⌜ leaves r (now (numbers .exit)) (now (bytes .exit)) ≡ argumentTaken form (now (line .entry)) t (now (numbers .entry)) (now (bytes .entry)) ⌝ }
+{
     if form == b'-' {
         return Step::Good(t);
     }
     let w = script::next_word(line, t.at);
     if !has(w) {
-        return Step::Bad(Fault::Missing);
+        return Step::Faulty(Fault::Missing);
     }
     let text = script::letters(line, w);
     if form == b'b' {
@@ -129,27 +176,31 @@ fn argument(form: u8, line: &[u8], t: Taken, numbers: &mut [u64], bytes: &mut [u
 }
 
 // The largest number of a form: a channel, a two-byte count, or how much there is to be lent.
-fn most(form: u8) -> u64 {
+fn most(form: u8) -> usize
+    ensures { λ r. ⌜ r ≡ mostOf form ⌝ }
+{
     match form {
-        b'c' => 255,
-        b'h' => 65_535,
-        b'S' => 76_800,
-        b'L' => 192_000,
-        b'O' => 280_000,
-        b'T' => 512,
-        b'E' => 48_000,
-        b'M' => 192,
-        b'R' => 128,
-        b'W' => 2_048,
-        _ => u64::MAX,
+        b'c' => CHANNEL,
+        b'h' => COUNT,
+        b'S' => SMALL,
+        b'L' => LANES,
+        b'O' => OUT,
+        b'T' => TABLE,
+        b'E' => LANE,
+        b'M' => MESSAGES,
+        b'R' => RANGES,
+        b'W' => WIRE,
+        _ => usize::MAX,
     }
 }
 
 // Takes bytes that end at a place of the line.
-fn some_bytes(text: &[u8], end: usize, t: Taken, bytes: &mut [u8]) -> Step {
+fn some_bytes(text: &[u8], end: usize, t: Taken, bytes: &mut [u8]) -> Step
+    ensures { λ r. ⌜ ((ns : List ℕ) → leaves r ns (now (bytes .exit)) ≡ bytesTaken end t ns (now (bytes .entry)) (bytesOf (length (now (bytes .entry))) (now (text .entry)))) ⌝ }
+{
     match script::bytes_of(text, bytes) {
-        Bytes::NotBytes => Step::Bad(Fault::NotBytes),
-        Bytes::TooMany => Step::Bad(Fault::TooMany),
+        Bytes::NotBytes => Step::Faulty(Fault::NotBytes),
+        Bytes::TooMany => Step::Faulty(Fault::TooMany),
         Bytes::To(n) => Step::Good(Taken {
             at: end,
             count: page::after(t.count),
@@ -160,13 +211,15 @@ fn some_bytes(text: &[u8], end: usize, t: Taken, bytes: &mut [u8]) -> Step {
 }
 
 // Takes a number that ends at a place of the line.
-fn one_number(text: &[u8], most: u64, end: usize, t: Taken, numbers: &mut [u64]) -> Step {
+fn one_number(text: &[u8], most: usize, end: usize, t: Taken, numbers: &mut [u64]) -> Step
+    ensures { λ r. ⌜ ((bs : List ℕ) → leaves r (now (numbers .exit)) bs ≡ numberTaken most end t (now (numbers .entry)) bs (numberOf (now (text .entry)))) ⌝ }
+{
     match script::number_of(text) {
-        Number::NotANumber => Step::Bad(Fault::NotANumber),
-        Number::TooLarge => Step::Bad(Fault::TooLarge),
+        Number::NotANumber => Step::Faulty(Fault::NotANumber),
+        Number::TooLarge => Step::Faulty(Fault::TooLarge),
         Number::Value(v) => {
-            if most < v {
-                return Step::Bad(Fault::TooLarge);
+            if (most as u64) < v {
+                return Step::Faulty(Fault::TooLarge);
             }
             Step::Good(Taken {
                 at: end,
@@ -179,7 +232,9 @@ fn one_number(text: &[u8], most: u64, end: usize, t: Taken, numbers: &mut [u64])
 }
 
 // Sets a word down in a table that has room for it, and answers the place after it.
-fn put(t: &mut [u64], i: usize, v: u64) -> usize {
+fn put(t: &mut [u64], i: usize, v: u64) -> usize
+    ensures { λ r. ⌜ (r ≡ placeAfter (length (now (t .entry))) i) × (now (t .exit) ≡ set (now (t .entry)) i v) ⌝ }
+{
     if i < t.len() {
         t[i] = v;
         return i + 1;
@@ -188,7 +243,9 @@ fn put(t: &mut [u64], i: usize, v: u64) -> usize {
 }
 
 // Takes up to MORE numbers.
-fn further(k: usize, line: &[u8], first: Taken, numbers: &mut [u64]) -> Read {
+fn further(k: usize, line: &[u8], first: Taken, numbers: &mut [u64]) -> Read
+    ensures { λ r. ⌜ ((bs : List ℕ) → leaves r (now (numbers .exit)) bs ≡ furtherTaken MORE k (now (line .entry)) first (now (numbers .entry)) bs) ⌝ }
+{
     let mut t = first;
     let mut left = MORE;
     while 0 < left {
@@ -196,10 +253,10 @@ fn further(k: usize, line: &[u8], first: Taken, numbers: &mut [u64]) -> Read {
         if !has(w) {
             return Read::Call(k, t.numbers, t.bytes);
         }
-        let s = one_number(script::letters(line, w), u64::MAX, w.end, t, numbers);
+        let s = one_number(script::letters(line, w), usize::MAX, w.end, t, numbers);
         match s {
             Step::Good(next) => t = next,
-            Step::Bad(e) => return Read::Bad(page::after(t.count), e),
+            Step::Faulty(e) => return Read::Bad(page::after(t.count), e),
         }
         left -= 1;
     }
@@ -207,7 +264,9 @@ fn further(k: usize, line: &[u8], first: Taken, numbers: &mut [u64]) -> Read {
 }
 
 // Nothing stands behind the last argument.
-fn ended(k: usize, line: &[u8], t: Taken) -> Read {
+fn ended(k: usize, line: &[u8], t: Taken) -> Read
+    ensures { λ r. ⌜ r ≡ endedOf k (now (line .entry)) t ⌝ }
+{
     if has(script::next_word(line, t.at)) {
         return Read::Bad(page::after(t.count), Fault::OneTooMany);
     }
@@ -215,7 +274,9 @@ fn ended(k: usize, line: &[u8], t: Taken) -> Read {
 }
 
 // Says what is wrong with a line.
-pub fn bad(page: &mut [u8], at: usize, r: Read) -> usize {
+pub fn bad(page: &mut [u8], at: usize, r: Read) -> usize
+    ensures { λ a. ⌜ sheet (now (page .exit)) a ≡ badSaid r (sheet (now (page .entry)) at) ⌝ }
+{
     let a = page::text(page, at, b"bad line: ");
     match r {
         Read::Call(_, _, _) => a,
@@ -228,7 +289,9 @@ pub fn bad(page: &mut [u8], at: usize, r: Read) -> usize {
     }
 }
 
-fn say_fault(page: &mut [u8], at: usize, e: Fault) -> usize {
+fn say_fault(page: &mut [u8], at: usize, e: Fault) -> usize
+    ensures { λ r. ⌜ sheet (now (page .exit)) r ≡ said (faultOf e) (sheet (now (page .entry)) at) ⌝ }
+{
     match e {
         Fault::Missing => page::text(page, at, b"missing\n"),
         Fault::NotANumber => page::text(page, at, b"not a number\n"),
