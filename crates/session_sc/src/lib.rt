@@ -1,6 +1,13 @@
 // Calls on one reassembly.
+ghost use mathlib.Core.Path.{_≡_};
+ghost use lib.ListN.{getD};
 ghost use Rattle.slice_constructor.specs.Collect.{Valid};
+ghost use Rattle.script.specs.Ascii.{ascii};
+ghost use Rattle.arguments.specs.Arguments.{leaves, takenApart};
+ghost use Rattle.arguments.specs.Sizes.{LANE};
+ghost use Rattle.session_sc.specs.Lend.{lentAfter};
 use answers::packets;
+use arguments::LANE;
 use arguments::Read;
 use slice_constructor::Begin;
 use slice_constructor::Collect;
@@ -22,18 +29,17 @@ pub struct Told {
 
 // The reassembly at first.
 pub fn start() -> End
-    ensures { λ r. ⌜ Valid (r .state) ⌝ }
+    ensures { λ r. ⌜ Valid (r .state) × (r .lane ≡ LANE) ⌝ }
 {
     let begun = SliceConstructor::new(MessageId(0), 1);
     let state = begun.state;
-    End {
-        state,
-        lane: 48_000,
-    }
+    End { state, lane: LANE }
 }
 
 // The calls, in the order of `answer`.
-pub fn read(line: &[u8], from: usize, numbers: &mut [u64], bytes: &mut [u8]) -> Read {
+pub fn read(line: &[u8], from: usize, numbers: &mut [u64], bytes: &mut [u8]) -> Read
+    ensures { λ r. ⌜ leaves r (now (numbers .exit)) (now (bytes .exit)) ≡ takenApart (ascii "new nn slice nb lend E digest -") (now (line .entry)) from (now (numbers .entry)) (now (bytes .entry)) ⌝ }
+{
     arguments::taken_apart(
         b"new nn slice nb lend E digest -",
         line,
@@ -54,7 +60,7 @@ pub fn call(
     at: usize,
 ) -> Told
     requires { ⌜ Valid (e .state) ⌝ }
-    ensures { λ r. ⌜ Valid (r .end .state) ⌝ }
+    ensures { λ r. ⌜ Valid (r .end .state) × (r .end .lane ≡ lentAfter k (now (numbers .entry)) (e .lane)) ⌝ }
 {
     let t = answer(e, k, numbers, bytes, lane, page, at);
     let end = t.end;
@@ -72,7 +78,7 @@ fn answer(
     at: usize,
 ) -> Told
     requires { ⌜ Valid (e .state) ⌝ }
-    ensures { λ r. ⌜ Valid (r .end .state) ⌝ }
+    ensures { λ r. ⌜ Valid (r .end .state) × (r .end .lane ≡ lentAfter k (now (numbers .entry)) (e .lane)) ⌝ }
 {
     match k {
         0 => new(e, numbers, page, at),
@@ -84,7 +90,7 @@ fn answer(
 
 fn new(e: End, numbers: &[u64], page: &mut [u8], at: usize) -> Told
     requires { ⌜ Valid (e .state) ⌝ }
-    ensures { λ r. ⌜ Valid (r .end .state) ⌝ }
+    ensures { λ r. ⌜ Valid (r .end .state) × (r .end .lane ≡ e .lane) ⌝ }
 {
     let begun = SliceConstructor::new(MessageId(page::word(numbers, 0)), page::word(numbers, 1));
     let answer = begun.answer;
@@ -103,7 +109,7 @@ fn new(e: End, numbers: &[u64], page: &mut [u8], at: usize) -> Told
 // The reassembly after a call.
 fn with(e: End, state: SliceConstructor, at: usize) -> Told
     requires { ⌜ Valid state ⌝ }
-    ensures { λ r. ⌜ Valid (r .end .state) ⌝ }
+    ensures { λ r. ⌜ Valid (r .end .state) × (r .end .lane ≡ e .lane) ⌝ }
 {
     Told {
         end: End {
@@ -116,7 +122,7 @@ fn with(e: End, state: SliceConstructor, at: usize) -> Told
 
 fn lend(e: End, numbers: &[u64], page: &mut [u8], at: usize) -> Told
     requires { ⌜ Valid (e .state) ⌝ }
-    ensures { λ r. ⌜ Valid (r .end .state) ⌝ }
+    ensures { λ r. ⌜ Valid (r .end .state) × (r .end .lane ≡ getD (now (numbers .entry)) 0 0) ⌝ }
 {
     let state = e.state;
     let a = page::line(page, at, b"lent lane #", numbers);
@@ -131,7 +137,7 @@ fn lend(e: End, numbers: &[u64], page: &mut [u8], at: usize) -> Told
 
 fn digest(e: End, lane: &[u8], page: &mut [u8], at: usize) -> Told
     requires { ⌜ Valid (e .state) ⌝ }
-    ensures { λ r. ⌜ Valid (r .end .state) ⌝ }
+    ensures { λ r. ⌜ Valid (r .end .state) × (r .end .lane ≡ e .lane) ⌝ }
 {
     let a = page::line(page, at, b"lane #", &[say::digest_bytes(lane)]);
     Told { end: e, at: a }
@@ -139,7 +145,7 @@ fn digest(e: End, lane: &[u8], page: &mut [u8], at: usize) -> Told
 
 fn slice(e: End, index: u64, bytes: &[u8], lane: &mut [u8], page: &mut [u8], at: usize) -> Told
     requires { ⌜ Valid (e .state) ⌝ }
-    ensures { λ r. ⌜ Valid (r .end .state) ⌝ }
+    ensures { λ r. ⌜ Valid (r .end .state) × (r .end .lane ≡ e .lane) ⌝ }
 {
     let n = page::part(e.lane, lane);
     let state = e.state;

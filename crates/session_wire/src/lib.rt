@@ -1,6 +1,13 @@
 // Calls on the wire: packets, and the varints and counts that they are made of.
+ghost use mathlib.Core.Path.{_≡_};
+ghost use Rattle.script.specs.Ascii.{ascii};
+ghost use Rattle.arguments.specs.Arguments.{leaves, takenApart};
+ghost use Rattle.session_wire.specs.Lend.{allLent, lentBy, lentAfter};
 use answers::packets;
+use arguments::MESSAGES;
+use arguments::RANGES;
 use arguments::Read;
+use arguments::WIRE;
 use octets::Got;
 use octets::Put;
 use octets::Run;
@@ -27,16 +34,20 @@ pub struct Told {
 }
 
 // All is lent at first.
-pub fn start() -> Lent {
+pub fn start() -> Lent
+    ensures { λ r. ⌜ r ≡ allLent ⌝ }
+{
     Lent {
-        messages: 192,
-        ranges: 128,
-        out: 2_048,
+        messages: MESSAGES,
+        ranges: RANGES,
+        out: WIRE,
     }
 }
 
 // The calls, in the order of `answer`, `put`, `write` and `get`.
-pub fn read(line: &[u8], from: usize, numbers: &mut [u64], bytes: &mut [u8]) -> Read {
+pub fn read(line: &[u8], from: usize, numbers: &mut [u64], bytes: &mut [u8]) -> Read
+    ensures { λ r. ⌜ leaves r (now (numbers .exit)) (now (bytes .exit)) ≡ takenApart (ascii "lend MRW digest - read b put-u16 nh put-varint nn put-bytes nb small-reliable ncnbw small-unreliable ncnbw reliable-slice ncnnnnnb unreliable-slice ncnnnnnb ack nnw get-u8 bn get-u16 bn get-varint bn get-bytes bn varint-len n") (now (line .entry)) from (now (numbers .entry)) (now (bytes .entry)) ⌝ }
+{
     arguments::taken_apart(
         b"lend MRW digest - read b put-u16 nh put-varint nn put-bytes nb small-reliable ncnbw small-unreliable ncnbw reliable-slice ncnnnnnb unreliable-slice ncnnnnnb ack nnw get-u8 bn get-u16 bn get-varint bn get-bytes bn varint-len n",
         line,
@@ -57,7 +68,9 @@ pub fn call(
     out: &mut [u8],
     page: &mut [u8],
     at: usize,
-) -> Told {
+) -> Told
+    ensures { λ r. ⌜ r .lent ≡ lentAfter k (now (numbers .entry)) e ⌝ }
+{
     if k == 0 {
         let a = page::line(page, at, b"lent messages # ranges # out #\n", numbers);
         return Told {
@@ -72,7 +85,9 @@ pub fn call(
     }
 }
 
-fn lend(numbers: &[u64]) -> Lent {
+fn lend(numbers: &[u64]) -> Lent
+    ensures { λ r. ⌜ r ≡ lentBy (now (numbers .entry)) ⌝ }
+{
     Lent {
         messages: page::size(numbers, 0),
         ranges: page::size(numbers, 1),
