@@ -1,9 +1,10 @@
 -- What is alike at the channel ends. docs/SCRIPT.md, "Calls", "Lent memory" and "At first". Assumes nothing.
-use Prim.Native.Nat.{ℕ, _+_, _*_}
+use Prim.Native.Nat.{ℕ, _+_}
 use mathlib.Core.List.{List, [], _∷_}
 use lib.ListN.{getD}
 use Rattle.words.specs.Sizes as w
-use Rattle.words.specs.Sizes.{SLICE_SIZE, SLOTS, PIECES, MAX_MEMORY}
+use Rattle.words.specs.Sizes.{SLOTS, PIECES, MAX_MEMORY}
+use Rattle.memory.specs.Sizes.{SMALL, LANES, OUT, TABLE}
 use Rattle.script.specs.Ascii.{ascii}
 use Rattle.say.specs.Digest.{digestOf}
 use Rattle.page.specs.Page.{Sheet, said, saidRefusal, lined}
@@ -25,19 +26,6 @@ wholeSettings = record { slots = SLOTS; lanes = w.LANES; pieces = PIECES; «max_
 unfoldable pub setupSaid : Setup → Sheet → Sheet
 setupSaid Ready sh = said (ascii "ready") sh
 setupSaid (Refused e) sh = saidRefusal e sh
-
--- the most that is lent: bytes of the two stores, bytes of packets, and words of their table
-abbrev pub SMALL : ℕ
-SMALL = SLOTS * SLICE_SIZE
-
-abbrev pub LANES : ℕ
-LANES = w.LANES * (PIECES * SLICE_SIZE)
-
-abbrev pub OUT : ℕ
-OUT = 280000
-
-abbrev pub TABLE : ℕ
-TABLE = 512
 
 -- all is lent at first, and no packet is kept
 abbrev pub allStores : Stores

@@ -15,7 +15,8 @@ use Rattle.script.specs.declared.Number.{Number}
 use Rattle.script.specs.declared.Number.the-variants.{Value, NotANumber as no-number, TooLarge as too-large}
 use Rattle.script.specs.declared.Bytes.{Bytes}
 use Rattle.script.specs.declared.Bytes.the-variants.{To, NotBytes as no-bytes, TooMany as too-many}
-use Rattle.arguments.specs.Sizes.{MAX, CHANNEL, COUNT, SMALL, LANE, LANES, OUT, TABLE, MESSAGES, RANGES, WIRE, MORE}
+use Rattle.memory.specs.Sizes.{SMALL, LANE, LANES, OUT, TABLE, MESSAGES, RANGES, WIRE}
+use Rattle.arguments.specs.Sizes.{MAX, CHANNEL, COUNT, MORE}
 use Rattle.arguments.specs.declared.Fault.{Fault}
 use Rattle.arguments.specs.declared.Fault.the-variants.{Missing, NotANumber, TooLarge, NotBytes, TooMany, OneTooMany}
 use Rattle.arguments.specs.declared.Read.{Read}

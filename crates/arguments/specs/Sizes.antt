@@ -1,6 +1,5 @@
--- The largest numbers of a script's arguments, as the code has them. docs/SCRIPT.md, "Lent memory" and "Bad lines". Assumes nothing.
-use Prim.Native.Nat.{ℕ, _-_, _*_, _^_}
-use Rattle.words.specs.Sizes as sizes
+-- The largest numbers of a script's arguments, as the code has them. docs/SCRIPT.md, "Bad lines". Assumes nothing.
+use Prim.Native.Nat.{ℕ, _-_, _^_}
 
 -- any number
 abbrev pub MAX : ℕ
@@ -12,32 +11,6 @@ CHANNEL = 255
 
 abbrev pub COUNT : ℕ
 COUNT = 65535
-
--- what there is to be lent to a channel end: its two stores, and of a sender `out` and `table`
-abbrev pub SMALL : ℕ
-SMALL = sizes.SLOTS * sizes.SLICE_SIZE
-
-abbrev pub LANE : ℕ
-LANE = sizes.PIECES * sizes.SLICE_SIZE
-
-abbrev pub LANES : ℕ
-LANES = sizes.LANES * LANE
-
-abbrev pub OUT : ℕ
-OUT = 280000
-
-abbrev pub TABLE : ℕ
-TABLE = 512
-
--- what there is to be lent to the wire: the tables of messages and of ranges, and `out`
-abbrev pub MESSAGES : ℕ
-MESSAGES = 192
-
-abbrev pub RANGES : ℕ
-RANGES = 128
-
-abbrev pub WIRE : ℕ
-WIRE = 2048
 
 -- the most further numbers of a call that takes some
 abbrev pub MORE : ℕ

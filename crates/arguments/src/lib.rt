@@ -13,32 +13,11 @@ ghost use Rattle.arguments.specs.Sizes.{MORE};
 use script::Bytes;
 use script::Number;
 use script::Word;
-use words::PIECES;
-use words::SLICE_SIZE;
-use words::SLOTS;
 
 // The largest channel, and the largest two-byte count.
 const CHANNEL: usize = 255;
 
 const COUNT: usize = 65_535;
-
-// What there is to be lent to a channel end: its two stores, and of a sender `out` and `table`.
-pub const SMALL: usize = SLOTS * SLICE_SIZE;
-
-pub const LANE: usize = PIECES * SLICE_SIZE;
-
-pub const LANES: usize = words::LANES * LANE;
-
-pub const OUT: usize = 280_000;
-
-pub const TABLE: usize = 512;
-
-// What there is to be lent to the wire: the tables of messages and of ranges, and `out`.
-pub const MESSAGES: usize = 192;
-
-pub const RANGES: usize = 128;
-
-pub const WIRE: usize = 2_048;
 
 // The most further numbers of a call that takes some.
 const MORE: usize = 192;
@@ -182,14 +161,14 @@ fn most(form: u8) -> usize
     match form {
         b'c' => CHANNEL,
         b'h' => COUNT,
-        b'S' => SMALL,
-        b'L' => LANES,
-        b'O' => OUT,
-        b'T' => TABLE,
-        b'E' => LANE,
-        b'M' => MESSAGES,
-        b'R' => RANGES,
-        b'W' => WIRE,
+        b'S' => memory::SMALL,
+        b'L' => memory::LANES,
+        b'O' => memory::OUT,
+        b'T' => memory::TABLE,
+        b'E' => memory::LANE,
+        b'M' => memory::MESSAGES,
+        b'R' => memory::RANGES,
+        b'W' => memory::WIRE,
         _ => usize::MAX,
     }
 }

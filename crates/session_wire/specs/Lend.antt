@@ -4,7 +4,7 @@ use mathlib.Core.List.{List}
 use lib.ListN.{getD}
 use lib.Dec.{eqb}
 use Rattle.words.specs.Choice.{pick}
-use Rattle.arguments.specs.Sizes.{MESSAGES, RANGES, WIRE}
+use Rattle.memory.specs.Sizes.{MESSAGES, RANGES, WIRE}
 use Rattle.session_wire.specs.declared.Lent.{Lent}
 
 -- all at first
