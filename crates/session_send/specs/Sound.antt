@@ -1,8 +1,12 @@
 -- The two senders of a script, as their libraries made and left them, and what each is lent. Assumes nothing.
-use Prim.Native.Nat.{ℕ, _*_, _≤_}
+use Prim.Native.Nat.{ℕ, _+_, _≤_}
+use mathlib.Core.Path.{_≡_}
 use mathlib.Core.Bool.{Bool}
-use Rattle.words.specs.Sizes.{SLICE_SIZE, SLOTS, LANES, PIECES}
+use mathlib.Core.List.{List}
+use lib.ListN.{take, drop}
+use lib.Dec.{eqb}
 use Rattle.words.specs.Choice.{pick}
+use Rattle.arguments.specs.Sizes.{SMALL, LANES, OUT, TABLE}
 use Rattle.memory.specs.Memory.{SpanGives}
 use Rattle.send_reliable.specs.Sender as srv
 use Rattle.send_unreliable.specs.Sender as suv
@@ -10,16 +14,9 @@ use Rattle.session_send.specs.declared.Lent.{Lent}
 use Rattle.session_send.specs.declared.Parts.{Parts}
 use Rattle.session_send.specs.declared.Senders.{Senders}
 
--- a sender's own part of the memory of packets, and of the tables
-abbrev pub OUT : ℕ
-OUT = 280000
-
-abbrev pub TABLE : ℕ
-TABLE = 512
-
--- all of it is lent, and no packet stands there
+-- all that a sender has is lent, and no packet stands there
 abbrev pub whole : Lent
-whole = record { small = SLOTS * SLICE_SIZE; lanes = LANES * PIECES * SLICE_SIZE; out = OUT; table = TABLE; packets = 0 }
+whole = record { small = SMALL; lanes = LANES; out = OUT; table = TABLE; packets = 0 }
 
 abbrev pub nothing : Lent
 nothing = record { small = 0; lanes = 0; out = 0; table = 0; packets = 0 }
@@ -27,6 +24,17 @@ nothing = record { small = 0; lanes = 0; out = 0; table = 0; packets = 0 }
 -- what one of the senders is lent
 abbrev pub lentTo : Senders → Bool → Lent
 lentTo s reliable = pick reliable (s .«sr_lent») (s .«su_lent»)
+
+-- what a call sees of the sender's memory: a digest all, any other what is lent
+abbrev pub DIGEST : ℕ
+DIGEST = 6
+
+abbrev pub seenBy : Senders → Bool → ℕ → Lent
+seenBy s reliable k = pick (eqb k DIGEST) whole (lentTo s reliable)
+
+-- where a sender's memory begins: the unreliable one's lies behind the reliable one's
+abbrev pub beginning : Bool → Lent
+beginning reliable = pick reliable nothing whole
 
 -- a sender is lent no more than its own part
 pub record Own (l : Lent) : Type 0 where
@@ -45,3 +53,15 @@ pub record PartsGive (from l : Lent) (smalls all-lanes outs tables : ℕ) (p : P
 -- both are valid, and lent their own. Shut, so that a proof that hands the senders on does not look into them
 unfoldable pub Sound : Senders → Type 0
 Sound s = srv.Valid (s .sr) × suv.Valid (s .su) × Own (s .«sr_lent») × Own (s .«su_lent»)
+
+-- a memory is as it was but for n from a place on
+unfoldable pub Keeps : ℕ → ℕ → List ℕ → List ℕ → Type 0
+Keeps from n before after = (take from after ≡ take from before) × (drop (from + n) after ≡ drop (from + n) before)
+
+-- after a call the senders are sound, and no memory but what the call sees is changed
+pub record CallGives (reliable : Bool) (seen : Lent) (small small' lanes lanes' out out' table table' : List ℕ) (s : Senders) : Type 0 where
+  pub sound : Sound s
+  pub in-small : Keeps (beginning reliable .small) (seen .small) small small'
+  pub in-lanes : Keeps (beginning reliable .lanes) (seen .lanes) lanes lanes'
+  pub in-out : Keeps (beginning reliable .out) (seen .out) out out'
+  pub in-table : Keeps (beginning reliable .table) (seen .table) table table'

@@ -2,10 +2,11 @@
 ghost use mathlib.Core.Path.{_≡_};
 ghost use Prim.Native.Nat.{min};
 ghost use lib.ListN.{length};
-ghost use Rattle.words.specs.Choice.{pick};
+ghost use Rattle.arguments.specs.Arguments.{leaves, takenApart};
 ghost use Rattle.send_reliable.specs.Sender as srv;
 ghost use Rattle.send_unreliable.specs.Sender as suv;
-ghost use Rattle.session_send.specs.Sound.{Sound, Own, PartsGive, lentTo, whole, nothing};
+ghost use Rattle.session_send.specs.Calls.{callsOf};
+ghost use Rattle.session_send.specs.Sound.{Sound, Own, PartsGive, CallGives, lentTo, seenBy, beginning, whole};
 use answers::Call;
 use arguments::Read;
 use channel::Setup;
@@ -105,7 +106,9 @@ pub fn read(
     from: usize,
     numbers: &mut [u64],
     bytes: &mut [u8],
-) -> Read {
+) -> Read
+    ensures { λ r. ⌜ leaves r (now (numbers .exit)) (now (bytes .exit)) ≡ takenApart (callsOf reliable) (now (line .entry)) from (now (numbers .entry)) (now (bytes .entry)) ⌝ }
+{
     if reliable {
         return arguments::taken_apart(
             b"new cnnnnn send b round nnn available - can-send n lend SLOT digest - usage - ack n ack-slice nn",
@@ -152,10 +155,11 @@ pub fn call(
     page: &mut [u8],
 ) -> Told
     requires { ⌜ Sound s ⌝ }
-    ensures { λ r. ⌜ Sound (r .senders) ⌝ }
+    ensures { λ r. ⌜ CallGives reliable (seenBy s reliable (c .k))
+        (now (small .entry)) (now (small .exit)) (now (lanes .entry)) (now (lanes .exit))
+        (now (out .entry)) (now (out .exit)) (now (table .entry)) (now (table .exit)) (r .senders) ⌝ }
 {
-    let l = seen(s, reliable, c.k);
-    let p = parts_of(begins(reliable), l, small, lanes, out, table);
+    let p = parts_of(s, reliable, c.k, small, lanes, out, table);
     let a = p.small.start;
     let b = p.small.end;
     let d = p.lanes.start;
@@ -182,8 +186,7 @@ pub fn call(
 
 // What a call sees: what is lent, but a digest is of all.
 fn seen(s: Senders, reliable: bool, k: usize) -> Lent
-    requires { ⌜ Sound s ⌝ }
-    ensures { λ r. ⌜ Own r ⌝ }
+    ensures { λ r. ⌜ r ≡ seenBy s reliable k ⌝ }
 {
     if k == DIGEST {
         return all();
@@ -204,7 +207,7 @@ struct Parts {
 
 // Where a sender's own memory begins: the unreliable sender's lies behind the reliable one's.
 fn begins(reliable: bool) -> Lent
-    ensures { λ r. ⌜ r ≡ pick reliable nothing whole ⌝ }
+    ensures { λ r. ⌜ r ≡ beginning reliable ⌝ }
 {
     if reliable {
         return Lent {
@@ -218,10 +221,21 @@ fn begins(reliable: bool) -> Lent
     all()
 }
 
-// As much of each memory as is lent, from where it begins on.
-fn parts_of(from: Lent, l: Lent, small: &[u8], lanes: &[u8], out: &[u8], table: &[u64]) -> Parts
-    ensures { λ r. ⌜ PartsGive from l (length (now (small .entry))) (length (now (lanes .entry))) (length (now (out .entry))) (length (now (table .entry))) r ⌝ }
+// What a call sees of the memory of all ends.
+fn parts_of(
+    s: Senders,
+    reliable: bool,
+    k: usize,
+    small: &[u8],
+    lanes: &[u8],
+    out: &[u8],
+    table: &[u64],
+) -> Parts
+    ensures { λ r. ⌜ PartsGive (beginning reliable) (seenBy s reliable k)
+                       (length (now (small .entry))) (length (now (lanes .entry))) (length (now (out .entry))) (length (now (table .entry))) r ⌝ }
 {
+    let from = begins(reliable);
+    let l = seen(s, reliable, k);
     Parts {
         small: memory::bytes_span(small, from.small, l.small),
         lanes: memory::bytes_span(lanes, from.lanes, l.lanes),

@@ -1,21 +1,16 @@
 use borrow.Author.Needs.{needs}
 use native.Mathlib.Omega.{arith}
+use Rattle.session_send.proofs.Back.{keeps}
 use Rattle.session_send.proofs.call.Statement.{statement}
 use Rattle.session_send.proofs.call.Tie as tie
 use Rattle.session_send.proofs.call.Reads as reads
 use Rattle.session_send.proofs.call.Lts as lts
 use Rattle.session_send.proofs.answer.Reads as answer-reads
-use Rattle.session_send.proofs.begins.Reads as begins-reads
 use Rattle.session_send.proofs.parts_of.Reads as parts-of-reads
-use Rattle.session_send.proofs.seen.Reads as seen-reads
 
 -- src/lib.rt:157:9
-seen-requires : tie.Need-seen-requires
-seen-requires c κs = search needs
 
 -- src/lib.rt:158:22
-begins-requires : tie.Need-begins-requires
-begins-requires c κs = search needs
 
 -- src/lib.rt:158:9
 parts-of-requires : tie.Need-parts-of-requires
@@ -59,7 +54,7 @@ part-answer-end-3 c = search needs
 
 -- src/lib.rt:176:9
 mul-answer : tie.Need-mul-answer
-mul-answer c = omega (arith, c .before .before .before .parts-of .ensures .table .ordered, c .before .before .before .parts-of .ensures .table .inside, c .before .before .before .before .before .before .before .before .before .before .before .before .before .before .before .before .before .before .before .good .1 .1 .1 .1 .1 .1 .1 .1 .0)
+mul-answer c = omega (arith, c .before .before .before .parts-of .ensures .table .ordered, c .before .before .before .parts-of .ensures .table .inside, c .before .before .before .before .before .before .before .before .before .before .before .before .before .before .before .before .before .good .1 .1 .1 .1 .1 .1 .1 .1 .0)
 
 -- src/lib.rt:176:9
 sub-answer-4 : tie.Need-sub-answer-4
@@ -75,7 +70,7 @@ part-answer-end-4 c = search needs
 
 -- src/lib.rt:167:5
 answer-requires : tie.Need-answer-requires
-answer-requires c κs = c .before .before .before .before .before .before .before .before .before .before .before .before .before .before .before .before .before .before .before .before .before .before .before .pre
+answer-requires c κs = c .before .before .before .before .before .before .before .before .before .before .before .before .before .before .before .before .before .before .before .before .before .pre
 
 -- src/lib.rt:140:1
 same-length : tie.Need-same-length
@@ -107,14 +102,19 @@ same-length-7 c = search needs
 
 -- src/lib.rt:140:1
 returns : tie.Need-returns
-returns c = search needs
+returns c =
+    record {
+      sound = c .before .before .before .before .before .before .before .before .before .before .before .before .before .before .answer .ensures;
+      in-small = keeps _ _ _ (c .before .before .before .before .before .before .before .before .before .before .before .before .before .before .answer .last .1 .1 .1 .1 .1 .0) _ (c .before .before .before .before .before .before .before .before .before .before .before .before .before .before .before .before .before .before .before .before .before .before .parts-of .ensures .small) (c .before .before .before .before .before .before .before .before .before .before .before .before .before .small .given .0) (c .before .before .before .before .before .before .before .before .before .before .before .before .before .small .given .1);
+      in-lanes = keeps _ _ _ (c .before .before .before .before .before .before .before .before .before .before .before .before .before .before .answer .last .1 .1 .1 .1 .1 .1 .0) _ (c .before .before .before .before .before .before .before .before .before .before .before .before .before .before .before .before .before .before .before .before .before .before .parts-of .ensures .lanes) (c .before .before .before .before .before .before .before .before .before .before .before .lanes .given .0) (c .before .before .before .before .before .before .before .before .before .before .before .lanes .given .1);
+      in-out = keeps _ _ _ (c .before .before .before .before .before .before .before .before .before .before .before .before .before .before .answer .last .1 .1 .1 .1 .1 .1 .1 .0) _ (c .before .before .before .before .before .before .before .before .before .before .before .before .before .before .before .before .before .before .before .before .before .before .parts-of .ensures .out) (c .before .before .before .before .before .before .before .before .before .out .given .0) (c .before .before .before .before .before .before .before .before .before .out .given .1);
+      in-table = keeps _ _ _ (c .before .before .before .before .before .before .before .before .before .before .before .before .before .before .answer .last .1 .1 .1 .1 .1 .1 .1 .1 .0) _ (c .before .before .before .before .before .before .before .before .before .before .before .before .before .before .before .before .before .before .before .before .before .before .parts-of .ensures .table) (c .before .before .before .before .before .before .before .table .given .0) (c .before .before .before .before .before .before .before .table .given .1);
+    }
 
 pub call-spec : {M : Type 1} → statement M
 call-spec =
     tie.close
     (tie.spec
-    seen-requires
-    begins-requires
     parts-of-requires
     sub-answer
     part-answer-start

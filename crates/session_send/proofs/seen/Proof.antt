@@ -1,28 +1,21 @@
+-- `session_send::seen` meets its contract: by its tests. Assumes nothing.
 use borrow.Author.Needs.{needs}
-use Rattle.session_send.specs.Sound.{Sound}
+use mathlib.Core.Path.{refl}
+use borrow.Author.Tests.{eq-eqb, ne-eqb}
 use Rattle.session_send.proofs.seen.Statement.{statement}
 use Rattle.session_send.proofs.seen.Tie as tie
-use Rattle.session_send.proofs.seen.Reads as reads
-use Rattle.session_send.proofs.seen.Lts as lts
-use Rattle.session_send.proofs.all.Reads as all-reads
 
--- src/lib.rt:189:9
 all-requires : tie.Need-all-requires
 all-requires c κs = search needs
 
--- src/lib.rt:189:9
 returns : tie.Need-returns
-returns c = search needs
+returns c = simp (eq-eqb _ _ (c .before .if1 .taken)) (c .all .ensures .0)
 
--- src/lib.rt:192:9
 returns-2 : tie.Need-returns-2
-unfolding Sound
-returns-2 c = search needs
+returns-2 c = simp (ne-eqb _ _ (c .before .before .if1 .left), c .before .if2 .taken) refl
 
--- src/lib.rt:184:1
 returns-3 : tie.Need-returns-3
-unfolding Sound
-returns-3 c = search needs
+returns-3 c = simp (ne-eqb _ _ (c .before .before .if1 .left), c .before .if2 .left) refl
 
 pub seen-spec : {M : Type 1} → statement M
 seen-spec = tie.close (tie.spec all-requires returns returns-2 returns-3)
