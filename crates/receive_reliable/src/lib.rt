@@ -3,8 +3,8 @@
 ghost use mathlib.Core.Path.{_≡_};
 ghost use Prim.Native.Nat.{_≤_};
 ghost use lib.ListN.{length};
-ghost use Rattle.words.specs.Sizes.{LANES};
 ghost use Rattle.words.specs.Lists.{lowestFree};
+ghost use Rattle.channel.specs.Find.{heldAt};
 ghost use Rattle.receive_reliable.specs.Receive.{Valid, newOf, MadeGives, arrivalOf, MessageGives, messageSpot, SliceGives, lookAt, lookOf, partAt, TakeGives};
 ghost use Rattle.receive_reliable.specs.Steps.{heldBy, heldIn, entryOf, messagePlaceOf, slicePlaceOf, noCell, noLane, freshLane, laneSpot};
 use channel::Settings;
@@ -134,9 +134,15 @@ impl ReceiveChannelReliable {
     {
         let id = message_id.0;
         let n = message.len();
-        let cell = channel::find(&self.cells, &self.cell_ids, id);
-        let lane = channel::find(&self.lanes, &self.lane_ids, id);
-        let held = locate(cell, lane, &self.whole, &self.lane_lens);
+        let held = locate(
+            &self.cells,
+            &self.cell_ids,
+            &self.lanes,
+            &self.lane_ids,
+            &self.whole,
+            &self.lane_lens,
+            id,
+        );
         let free = words::lowest_free(&self.cells, self.settings.slots);
         let place = self.message_place(held, free, id, n, small.len(), lanes.len());
         let answer = place.answer;
@@ -172,9 +178,15 @@ impl ReceiveChannelReliable {
         ensures { λ r. ⌜ SliceGives self («message_id» .0) «num_slices» («slice_index» .0) (now (payload .entry)) (now (small .entry)) (now (lanes .entry)) (now (lanes .exit)) r ⌝ }
     {
         let id = message_id.0;
-        let cell = channel::find(&self.cells, &self.cell_ids, id);
-        let lane = channel::find(&self.lanes, &self.lane_ids, id);
-        let held = locate(cell, lane, &self.whole, &self.lane_lens);
+        let held = locate(
+            &self.cells,
+            &self.cell_ids,
+            &self.lanes,
+            &self.lane_ids,
+            &self.whole,
+            &self.lane_lens,
+            id,
+        );
         let free = words::lowest_free(&self.lanes, self.settings.lanes);
         let place = self.slice_place(held, free, id, num_slices, small.len(), lanes.len());
         let answer = place.answer;
@@ -221,9 +233,15 @@ impl ReceiveChannelReliable {
         let settings = self.settings;
         if settings.stores_hold(small.len(), lanes.len()) {
             let id = self.oldest_pending_message_id;
-            let cell = channel::find(&self.cells, &self.cell_ids, id);
-            let lane = channel::find(&self.lanes, &self.lane_ids, id);
-            let held = locate(cell, lane, &self.whole, &self.lane_lens);
+            let held = locate(
+                &self.cells,
+                &self.cell_ids,
+                &self.lanes,
+                &self.lane_ids,
+                &self.whole,
+                &self.lane_lens,
+                id,
+            );
             let Held::At(store, i) = held else {
                 return Look::Nothing;
             };
@@ -263,9 +281,15 @@ impl ReceiveChannelReliable {
         ensures { λ r. ⌜ TakeGives self r ⌝ }
     {
         let oldest = self.oldest_pending_message_id;
-        let cell = channel::find(&self.cells, &self.cell_ids, oldest);
-        let lane = channel::find(&self.lanes, &self.lane_ids, oldest);
-        let held = locate(cell, lane, &self.whole, &self.lane_lens);
+        let held = locate(
+            &self.cells,
+            &self.cell_ids,
+            &self.lanes,
+            &self.lane_ids,
+            &self.whole,
+            &self.lane_lens,
+            oldest,
+        );
         let Held::At(store, i) = held else {
             return Received {
                 answer: Look::Nothing,
@@ -464,14 +488,23 @@ fn no_lane(answer: Arrival) -> SlicePlace
     }
 }
 
-// Where a message is, by what the searches of the two tables found.
-fn locate<'a>(cell: usize, lane: usize, whole: &'a [bool], lane_lens: &'a [usize]) -> Held
-    requires { ⌜ (length (now whole) ≡ LANES) × (length (now «lane_lens») ≡ LANES) ⌝ }
-    ensures { λ r. ⌜ r ≡ heldBy cell lane (now (whole .entry)) (now («lane_lens» .entry)) ⌝ }
+// Where the message with an id is, by the columns of the two tables.
+fn locate<'a>(
+    cells: &'a [bool; SLOTS],
+    cell_ids: &'a [u64; SLOTS],
+    lanes: &'a [bool; LANES],
+    lane_ids: &'a [u64; LANES],
+    whole: &'a [bool; LANES],
+    lane_lens: &'a [usize; LANES],
+    id: u64,
+) -> Held
+    ensures { λ r. ⌜ r ≡ heldBy (heldAt (now (cells .entry)) (now («cell_ids» .entry)) id) (heldAt (now (lanes .entry)) (now («lane_ids» .entry)) id) (now (whole .entry)) (now («lane_lens» .entry)) ⌝ }
 {
+    let cell = channel::find(cells, cell_ids, id);
     if cell < SLOTS {
         return Held::At(Store::Small, cell);
     }
+    let lane = channel::find(lanes, lane_ids, id);
     if LANES <= lane {
         return Held::Nothing;
     }

@@ -16,15 +16,15 @@ use Rattle.receive_reliable.proofs.ReceiveChannelReliable.look.Statemen
 use Rattle.receive_reliable.proofs.ReceiveChannelReliable.look.Tie as tie
 
 abbrev start : tie.After-locate → tie.Start
-start c = c .before .before .before .before .before .before .before .before .before .before .before .before .before .before .before .before .before .before .before .before .before .before .before
+start c = c .before .before .before .before .before .before .before .before .before .before .before .before .before
 
--- where the searches found the message
+-- where the message is
 located : (c : tie.After-locate) → (let a = start c .args in heldIn (a .t1) (a .t1 .«oldest_pending_message_id») ≡ c .locate .result)
-located c = sym (rw (← c .before .before .before .before .before .before .before .before .before .before .before .before .find .ensures, ← c .before .before .before .before .before .before .find2 .ensures) (c .locate .ensures))
+located c = sym (c .locate .ensures)
 
 -- the stores hold
 fine : (c : tie.After-locate) → (let a = start c .args in storesHold (a .t1 .settings) (length (a .small .now)) (length (a .lanes .now)) ≡ true)
-fine c = let tested = c .before .before .before .before .before .before .before .before .before .before .before .before .before .before .before .before .before .before in sym (tested .before .stores-hold .ensures) ∙ tested .if1 .taken
+fine c = let tested = c .before .before .before .before .before .before .before .before in sym (tested .before .stores-hold .ensures) ∙ tested .if1 .taken
 
 -- where the message is held
 in-cell : (c : tie.After-enum-told) → (let s = start (c .before .before .before .before .before) .args .t1 in heldIn s (s .«oldest_pending_message_id») ≡ At Small (c .before .before .before .held .given .0 .1 .0))
@@ -41,12 +41,6 @@ lane-low c = let v = start (c .before .before .before .before .before) .pre in o
 
 stores-hold-requires : tie.Need-stores-hold-requires
 stores-hold-requires c κs = search needs
-
-find-requires : tie.Need-find-requires
-find-requires c κs = search needs
-
-find-requires-2 : tie.Need-find-requires-2
-find-requires-2 c κs = search needs
 
 locate-requires : tie.Need-locate-requires
 locate-requires c κs = search needs
@@ -69,8 +63,8 @@ element-copy-out-len c = cell-low c
 cast-len : tie.Need-cast-len
 cast-len c = omega (arith, start (c .before .before .before .before .before .before) .pre .cell _ (cell-low (c .before)) .small)
 
-mul-t30 : tie.Need-mul-t30
-mul-t30 c = let low = cell-low (c .before) in omega arith
+mul-t22 : tie.Need-mul-t22
+mul-t22 c = let low = cell-low (c .before) in omega arith
 
 returns-2 : tie.Need-returns-2
 returns-2 c = sym (waiting-shown _ Small _ (in-cell (c .before))) ∙ look-shows _ _ _ (fine (c .before .before .before .before .before .before))
@@ -87,8 +81,8 @@ element-copy-out-len-2 c = lane-low c
 mul-size : tie.Need-mul-size
 mul-size c = search needs
 
-mul-t39 : tie.Need-mul-t39
-mul-t39 c = let v = start (c .before .before .before .before .before .before) .pre in omega (arith, lane-end _ (v .settings) _ (lane-held _ _ v _ (in-lane (c .before)) .0))
+mul-t31 : tie.Need-mul-t31
+mul-t31 c = let v = start (c .before .before .before .before .before .before) .pre in omega (arith, lane-end _ (v .settings) _ (lane-held _ _ v _ (in-lane (c .before)) .0))
 
 returns-3 : tie.Need-returns-3
 returns-3 c = sym (waiting-shown _ Lanes _ (in-lane (c .before))) ∙ look-shows _ _ _ (fine (c .before .before .before .before .before .before))
@@ -101,8 +95,6 @@ look-spec =
     tie.close
     (tie.spec
     stores-hold-requires
-    find-requires
-    find-requires-2
     locate-requires
     enum-known-held
     returns
@@ -110,12 +102,12 @@ look-spec =
     mul-len
     element-copy-out-len
     cast-len
-    mul-t30
+    mul-t22
     returns-2
     enum-told-2
     mul-len-2
     element-copy-out-len-2
     mul-size
-    mul-t39
+    mul-t31
     returns-3
     returns-4)

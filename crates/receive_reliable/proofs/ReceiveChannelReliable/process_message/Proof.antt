@@ -7,20 +7,12 @@ use Rattle.words.specs.Sizes.{SLOTS}
 use Rattle.receive_reliable.specs.Receive.{messageSpot, cell, withMessage}
 use Rattle.receive_reliable.proofs.Spots.{spot-cell}
 use Rattle.receive_reliable.proofs.Gives.{cell-told, message-left, message-taken}
-use Rattle.receive_reliable.specs.Steps.{heldIn}
 use borrow.Author.Needs.{needs}
 use Rattle.receive_reliable.proofs.ReceiveChannelReliable.process_message.Statement.{statement}
 use Rattle.receive_reliable.proofs.ReceiveChannelReliable.process_message.Tie as tie
 
-abbrev begin : tie.After-locate → tie.Start
-begin c = c .before .before .before .before .before .before .before .before .before .before .before .before .before .before .before .before .before .before .before .before .before
-
 abbrev start : tie.After-message-place → tie.Start
-start c = begin (c .before .before .before .before .before)
-
--- where the searches found the message
-located : (c : tie.After-locate) → (let a = begin c .args in heldIn (a .t1) (a .message-id .0) ≡ c .locate .result)
-located c = sym (rw (← c .before .before .before .before .before .before .before .before .before .before .before .before .find .ensures, ← c .before .before .before .before .before .before .find2 .ensures) (c .locate .ensures))
+start c = c .before .before .before .before .before .before .before .before .before .before .before .before .before .before .before .before
 
 -- the cell that the message goes to
 in-cell : (c : tie.After-enum-told) → (let a = start (c .before .before) .args in
@@ -30,12 +22,6 @@ in-cell c = cell-told (c .before .before .message-place .result) _ (c .before .b
 cell-low : (c : tie.After-enum-told) → c .before .before .message-place .result .cell < SLOTS
 cell-low c = let v = start (c .before .before) .pre in omega (arith, spot-cell _ v _ _ _ _ _ (in-cell c) .1 .low, v .settings .slots-most)
 
-find-requires : tie.Need-find-requires
-find-requires c κs = search needs
-
-find-requires-2 : tie.Need-find-requires-2
-find-requires-2 c κs = search needs
-
 locate-requires : tie.Need-locate-requires
 locate-requires c κs = search needs
 
@@ -43,7 +29,7 @@ lowest-free-requires : tie.Need-lowest-free-requires
 lowest-free-requires c κs = search needs
 
 message-place-requires : tie.Need-message-place-requires
-message-place-requires c κs = (begin (c .before .before .before .before) .pre, sym (located (c .before .before .before .before)), c .lowest-free .ensures)
+message-place-requires c κs = (c .before .before .before .before .before .before .before .before .before .before .before .before .before .before .before .pre, c .before .before .before .before .locate .ensures, c .lowest-free .ensures)
 
 enum-told : tie.Need-enum-told
 enum-told c = search needs
@@ -89,8 +75,6 @@ pub process-message-spec : {M : Type 1} → statement M
 process-message-spec =
     tie.close
     (tie.spec
-    find-requires
-    find-requires-2
     locate-requires
     lowest-free-requires
     message-place-requires

@@ -8,20 +8,12 @@ use Rattle.channel.proofs.Good.{lane-end}
 use Rattle.receive_reliable.specs.Receive.{withLane}
 use Rattle.receive_reliable.proofs.Valid.{lane-used}
 use Rattle.receive_reliable.proofs.Gives.{InLane, lane-told, slice-left, lane-inside, lane-low, within, start-fits, slice-refused, taken-fits, charge-fits, slice-taken}
-use Rattle.receive_reliable.specs.Steps.{heldIn}
 use borrow.Author.Needs.{needs}
 use Rattle.receive_reliable.proofs.ReceiveChannelReliable.process_slice.Statement.{statement}
 use Rattle.receive_reliable.proofs.ReceiveChannelReliable.process_slice.Tie as tie
 
-abbrev begin : tie.After-locate → tie.Start
-begin c = c .before .before .before .before .before .before .before .before .before .before .before .before .before .before .before .before .before .before .before .before .before
-
 abbrev start : tie.After-slice-place → tie.Start
-start c = begin (c .before .before .before .before .before)
-
--- where the searches found the message
-located : (c : tie.After-locate) → (let a = begin c .args in heldIn (a .t1) (a .message-id .0) ≡ c .locate .result)
-located c = sym (rw (← c .before .before .before .before .before .before .before .before .before .before .before .before .find .ensures, ← c .before .before .before .before .before .before .find2 .ensures) (c .locate .ensures))
+start c = c .before .before .before .before .before .before .before .before .before .before .before .before .before .before .before .before
 
 -- the lane that the piece goes to
 in-lane : (c : tie.After-enum-told) → (let a = start (c .before .before) .args in let p = c .before .before .slice-place .result in
@@ -35,12 +27,6 @@ in-lane c =
 low : (c : tie.After-enum-told) → c .before .before .slice-place .result .lane < LANES
 low c = lane-low (in-lane c)
 
-find-requires : tie.Need-find-requires
-find-requires c κs = search needs
-
-find-requires-2 : tie.Need-find-requires-2
-find-requires-2 c κs = search needs
-
 locate-requires : tie.Need-locate-requires
 locate-requires c κs = search needs
 
@@ -48,7 +34,7 @@ lowest-free-requires : tie.Need-lowest-free-requires
 lowest-free-requires c κs = search needs
 
 slice-place-requires : tie.Need-slice-place-requires
-slice-place-requires c κs = (begin (c .before .before .before .before) .pre, sym (located (c .before .before .before .before)), c .lowest-free .ensures)
+slice-place-requires c κs = (c .before .before .before .before .before .before .before .before .before .before .before .before .before .before .before .pre, c .before .before .before .before .locate .ensures, c .lowest-free .ensures)
 
 enum-told : tie.Need-enum-told
 enum-told c = search needs
@@ -162,8 +148,6 @@ pub process-slice-spec : {M : Type 1} → statement M
 process-slice-spec =
     tie.close
     (tie.spec
-    find-requires
-    find-requires-2
     locate-requires
     lowest-free-requires
     slice-place-requires

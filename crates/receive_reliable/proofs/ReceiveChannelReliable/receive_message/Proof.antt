@@ -16,11 +16,11 @@ use Rattle.receive_reliable.proofs.ReceiveChannelReliable.receive_messa
 use Rattle.receive_reliable.proofs.ReceiveChannelReliable.receive_message.Tie as tie
 
 abbrev start : tie.After-locate → tie.Start
-start c = c .before .before .before .before .before .before .before .before .before .before .before .before .before .before .before .before .before .before
+start c = c .before .before .before .before .before .before .before .before
 
--- where the searches found the message
+-- where the message is
 located : (c : tie.After-locate) → (let a = start c .args in heldIn (a .t1) (a .t1 .«oldest_pending_message_id») ≡ c .locate .result)
-located c = sym (rw (← c .before .before .before .before .before .before .before .before .before .before .before .before .find .ensures, ← c .before .before .before .before .before .before .find2 .ensures) (c .locate .ensures))
+located c = sym (c .locate .ensures)
 
 -- where the message is held
 in-cell : (c : tie.After-enum-told) → (let s = start (c .before .before .before .before .before) .args .t1 in heldIn s (s .«oldest_pending_message_id») ≡ At Small (c .before .before .before .held .given .0 .1 .0))
@@ -34,12 +34,6 @@ cell-low c = let v = start (c .before .before .before .before .before) .pre in o
 
 lane-low : (c : tie.After-enum-told2) → c .before .before .before .held .given .0 .1 .0 < LANES
 lane-low c = let v = start (c .before .before .before .before .before) .pre in omega (arith, lane-held _ _ v _ (in-lane c) .0, v .settings .lanes-most)
-
-find-requires : tie.Need-find-requires
-find-requires c κs = search needs
-
-find-requires-2 : tie.Need-find-requires-2
-find-requires-2 c κs = search needs
 
 locate-requires : tie.Need-locate-requires
 locate-requires c κs = search needs
@@ -134,8 +128,6 @@ pub receive-message-spec : {M : Type 1} → statement M
 receive-message-spec =
     tie.close
     (tie.spec
-    find-requires
-    find-requires-2
     locate-requires
     enum-known-held
     returns
