@@ -108,6 +108,11 @@ module _ (s : ReceiveChannelReliable) (id : ℕ) where
     pub lane-here : inLane s id ≡ true → Here (s .lanes) (s .«lane_ids») id (laneOf s id)
     lane-here e = found (s .lanes) (s .«lane_ids») id (v .lanes-long ∙ sym (v .lane-ids-long)) (let l = ltb-true (laneOf s id) LANES e in omega (arith, v .lanes-long))
 
+    -- a lane that is not ignored is not whole
+    pub not-whole : inLane s id ≡ true → ignores s id ≡ false → getD (s .whole) (laneOf s id) false ≡ false
+    unfolding ignores
+    not-whole e o = rw e at (neither (inCell s id) _ (neither (ltb id (s .«oldest_pending_message_id»)) (isHeld s id) o .1) .1)
+
     -- of one in cell i: the cell is one of those that the settings ask for, and the id one that may come
     pub small-held : (i : ℕ) → heldIn s id ≡ held.At Small i → (i < s .settings .slots) × (id < LIMIT)
     small-held i e =
@@ -294,7 +299,7 @@ module _ (s : ReceiveChannelReliable) (v : Valid s) (id num small lane l : ℕ) 
 
   -- in a lane that is open already
   pub open-fits : laneSpot s id num small lane ≡ opened l → Entered s id small lane × Fits s l id (constructorAt s l)
-  unfolding laneSpot openLane freshLane ignores
+  unfolding laneSpot openLane freshLane
   open-fits e =
       let m : ℕ = laneOf s id in
       let t =
@@ -306,7 +311,7 @@ module _ (s : ReceiveChannelReliable) (v : Valid s) (id num small lane l : ℕ) 
       let n = counted (eqb-true _ _ (t .2)) in
       let low : l < LANES = rw (← t .5) (ltb-true m LANES (t .3)) in
       let here : Here (s .lanes) (s .«lane_ids») id l = rw (← t .5) (lane-here s id v (t .3)) in
-      let whole : getD (s .whole) l false ≡ false = rw (← t .5) (rw (t .3) at (neither (inCell s id) _ (neither (ltb id (s .«oldest_pending_message_id»)) (isHeld s id) (t .1) .1) .1)) in
+      let whole : getD (s .whole) l false ≡ false = rw (← t .5) (not-whole s id v (t .3) (t .1)) in
       let g = v .lane l low in
       let o = g .opened (here .held) whole in
       let used = lane-used s v l low in

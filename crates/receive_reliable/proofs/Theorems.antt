@@ -1,20 +1,28 @@
--- What follows from the promises: what the usage is, that a look and a take agree, that a refusal changes nothing, and that each call
--- has one outcome only. Assumes nothing.
-use Prim.Native.Nat.{ℕ, _+_, _≤_, _<_}
+-- What follows from the promises: what the usage is, that a look and a take agree, that a refusal and a repeat change nothing, and that
+-- each call has one outcome only. Assumes nothing.
+use Prim.Native.Nat.{ℕ, _+_, _-_, _*_, _≤_, _<_}
 use mathlib.Core.Path.{_≡_, refl, sym, ap, _∙_}
 use mathlib.Core.Bool.{Bool, true, false}
 use mathlib.Core.List.{List}
-use lib.ListN.{length, getD}
-use Rattle.words.specs.Sizes.{SLOTS, LANES}
+use native.Mathlib.Omega.{arith}
+use borrow.Author.Tests.{ltb-true, lt-leb, le-ltb, ne-eqb, eq-eqb}
+use lib.ListN.{length, getD, set}
+use lib.Seq.{set-getD}
+use Rattle.words.specs.Sizes.{SLICE_SIZE, SLOTS, LANES, LIMIT}
 use Rattle.words.specs.Choice.{pick}
 use Rattle.words.specs.Lists.{sumBelow}
 use Rattle.words.proofs.Unique.{told-apart, refusalOf, refusal-undone}
-use Rattle.channel.specs.Settings.{storesHold}
+use Rattle.channel.specs.Settings.{laneLen, storesHold}
 use Rattle.channel.specs.declared.Settings.{Settings}
 use Rattle.channel.specs.declared.Setup.{Setup}
 use Rattle.channel.proofs.Unique.{one-setup}
+use Rattle.channel.proofs.Held.{Here}
+use Rattle.slice_constructor.specs.declared.SliceConstructor.{SliceConstructor}
+use Rattle.slice_constructor.specs.Collect as c
+use Rattle.slice_constructor.proofs.Part.{repeat-good, repeat-bad, repeat-same}
 use Rattle.words.proofs.Tables.{by-test, clash, total-below}
-use Rattle.receive_reliable.specs.Receive.{inCell, isHeld, Outcome, taken, ignored, refused, arrivalOf, MessageSpot, cell, nowhere, messageSpot, messageAnswer, messageState, messageBytes, SliceSpot, opened, fresh, nothing, sliceSpot, sliceAnswer, sliceState, sliceBytes, Waiting, message, none-waiting, refusing, waiting, lookOf, lookAt, partAt, afterTake, MadeGives, MessageGives, SliceGives, TakeGives, Valid}
+use Rattle.receive_reliable.specs.Receive.{laneOf, inCell, inLane, isHeld, ignores, Outcome, taken, ignored, refused, arrivalOf, MessageSpot, cell, nowhere, messageSpot, messageAnswer, messageState, messageBytes, SliceSpot, opened, fresh, nothing, entryRefusal, countRefusal, constructorAt, placed, openSpot, sliceSpot, withLane, sliceAnswer, sliceState, sliceBytes, Waiting, message, none-waiting, refusing, waiting, lookOf, lookAt, partAt, afterTake, MadeGives, MessageGives, SliceGives, TakeGives, Valid}
+use Rattle.receive_reliable.specs.Repeats.{Repeats}
 use Rattle.receive_reliable.specs.Usage.{cellUse, laneUse}
 use Rattle.receive_reliable.specs.declared.ReceiveChannelReliable.{ReceiveChannelReliable}
 use Rattle.receive_reliable.specs.declared.Made.{Made}
@@ -25,6 +33,8 @@ use Rattle.receive_reliable.specs.declared.Store.{Store}
 use Rattle.receive_reliable.specs.declared.Look.{Look}
 use Rattle.receive_reliable.specs.declared.Look.the-variants as look
 use Rattle.receive_reliable.specs.declared.Received.{Received}
+use Rattle.receive_reliable.proofs.Spots.{lane-here, not-whole}
+use Rattle.receive_reliable.proofs.Valid.{lane-used}
 
 -- ---- the usage
 
@@ -60,6 +70,9 @@ arrival-undone arrival.Taken = refl
 arrival-undone arrival.Ignored = refl
 arrival-undone (arrival.Refused e) = ap arrival.Refused (refusal-undone e)
 
+same-arrival : (a b : Arrival) → arrivalOf a ≡ arrivalOf b → a ≡ b
+same-arrival = told-apart arrivalOf arrivalFrom arrival-undone
+
 abbrev lookFrom : Waiting → Look
 lookFrom (message id store place len) = look.Message (record { 0 = id }) store place len
 lookFrom none-waiting = look.Nothing
@@ -81,7 +94,7 @@ one-made s r q x y =
 
 one-arrived : (r q : Arrived) → arrivalOf (r .answer) ≡ arrivalOf (q .answer) → r .state ≡ q .state → r ≡ q
 one-arrived r q e t =
-    ap (λ (b : Arrival). record { answer = b; state = r .state }) (told-apart arrivalOf arrivalFrom arrival-undone (r .answer) (q .answer) e)
+    ap (λ (b : Arrival). record { answer = b; state = r .state }) (same-arrival (r .answer) (q .answer) e)
     ∙ ap (λ (u : ReceiveChannelReliable). record { answer = q .answer; state = u }) t
 
 pub one-message : (s : ReceiveChannelReliable) (id : ℕ) (bs small lane small₁ small₂ : List ℕ) (r q : Arrived)
@@ -151,3 +164,74 @@ module _ (s : ReceiveChannelReliable) where
   slice-not-taken id num i bs small lane lane' r g n =
       let k = slice-kept (sliceSpot s id num i (length bs) (length small) (length lane)) id num i bs lane (λ e. n (g .answer ∙ e)) in
       (g .state ∙ k .0, g .bytes ∙ k .1)
+
+-- ---- "A repeat is checked for size, then accepted without effect": no part of the state and no byte changes, whatever bytes it has
+
+module _ (s : ReceiveChannelReliable) (v : Valid s) (id num i : ℕ) (bs small lane lane' : List ℕ) (r : Arrived) (g : SliceGives s id num i bs small lane lane' r)
+    (stores : storesHold (s .settings) (length small) (length lane) ≡ true) where
+  -- of a message that is whole or was taken, whatever size it has
+  pub repeat-ignored : id < LIMIT → ignores s id ≡ true → (r .answer ≡ arrival.Ignored) × (r .state ≡ s) × (lane' ≡ lane)
+  unfolding sliceSpot entryRefusal
+  repeat-ignored below old =
+      let e : sliceSpot s id num i (length bs) (length small) (length lane) ≡ nothing ignored = rw (stores, lt-leb _ _ below, old) in
+      (same-arrival (r .answer) arrival.Ignored (g .answer ∙ ap sliceAnswer e), rw e at (g .state), rw e at (g .bytes))
+
+  -- of a message that is open
+  module _ (p : Repeats s id num i) where
+    low : laneOf s id < LANES
+    low = ltb-true (laneOf s id) LANES (p .lane)
+
+    here : Here (s .lanes) (s .«lane_ids») id (laneOf s id)
+    here = lane-here s id v (p .lane)
+
+    whole : getD (s .whole) (laneOf s id) false ≡ false
+    whole = not-whole s id v (p .lane) (p .awaited)
+
+    room : constructorAt s (laneOf s id) .«num_slices» * SLICE_SIZE ≤ laneLen (s .settings)
+    room = let f = v .lane (laneOf s id) low in omega (arith, f .opened (here .held) whole .3, f .long)
+
+    spot : sliceSpot s id num i (length bs) (length small) (length lane) ≡ placed s (constructorAt s (laneOf s id)) i (length bs) (opened (laneOf s id))
+    unfolding sliceSpot entryRefusal countRefusal openSpot
+    spot =
+        let f = v .lane (laneOf s id) low in
+        let below : id < LIMIT = rw (here .named) at (f .id-below) in
+        let some : num ≡ 0 → ⊥ = λ z. absurd (omega (arith, f .opened (here .held) whole .1, p .count)) in
+        let most : num ≤ s .settings .pieces = omega (arith, room, p .count) in
+        rw (stores, lt-leb _ _ below, p .awaited, ne-eqb _ _ some, le-ltb _ _ most, p .lane, eq-eqb _ _ (p .count))
+
+    same-lane : withLane s (laneOf s id) id (constructorAt s (laneOf s id)) ≡ s
+    unfolding withLane
+    same-lane =
+        let l : ℕ = laneOf s id in
+        let o = v .lane l low .opened (here .held) whole in
+        let still : c.isWhole (constructorAt s l) ≡ false = ne-eqb (constructorAt s l .«num_received_slices») (constructorAt s l .«num_slices») (λ e. absurd (omega (arith, o .2))) in
+        let usage : s .«memory_usage_bytes» - getD (s .«lane_lens») l 0 + SLICE_SIZE * constructorAt s l .«num_slices» ≡ s .«memory_usage_bytes» = omega (arith, o .3, lane-used s v l low) in
+        rw (
+          still,
+          usage,
+          rw (here .held) at (set-getD (s .lanes) l false),
+          rw whole at (set-getD (s .whole) l false),
+          rw (here .named) at (set-getD (s .«lane_ids») l 0),
+          rw (o .3) at (set-getD (s .«lane_lens») l 0),
+          set-getD (s .constructors) l (c.blankOf 0 0),
+        )
+
+    -- of the right size
+    pub repeat-accepted : c.sized (constructorAt s (laneOf s id)) i (length bs) ≡ true → (r .answer ≡ arrival.Taken) × (r .state ≡ s) × (lane' ≡ lane)
+    repeat-accepted size =
+        let l : ℕ = laneOf s id in
+        let f = v .lane l low .constructor in
+        let e : sliceSpot s id num i (length bs) (length small) (length lane) ≡ opened l = spot ∙ rw (repeat-good (constructorAt s l) f i (length bs) (laneLen (s .settings)) room (p .here) size) in
+        let unmoved : c.taken (constructorAt s l) i (length bs) ≡ constructorAt s l = repeat-same (constructorAt s l) f i (length bs) (laneLen (s .settings)) room (p .here) in (
+          same-arrival (r .answer) arrival.Taken (g .answer ∙ ap sliceAnswer e),
+          rw e at (g .state) ∙ ap (withLane s l id) unmoved ∙ same-lane,
+          rw (e, p .here) at (g .bytes),
+        )
+
+    -- of a wrong one
+    pub repeat-refused : c.sized (constructorAt s (laneOf s id)) i (length bs) ≡ false → (arrivalOf (r .answer) ≡ refused 8) × (r .state ≡ s) × (lane' ≡ lane)
+    repeat-refused size =
+        let l : ℕ = laneOf s id in
+        let f = v .lane l low .constructor in
+        let e : sliceSpot s id num i (length bs) (length small) (length lane) ≡ nothing (refused 8) = spot ∙ rw (repeat-bad (constructorAt s l) f i (length bs) (laneLen (s .settings)) room (p .here) size) in
+        (g .answer ∙ ap sliceAnswer e, rw e at (g .state), rw e at (g .bytes))

@@ -1,20 +1,20 @@
 -- A piece that is given to a constructor with a part of a store, m bytes from place a on: the answer, and the store with the part back in
 -- its place. Knows no channel. Assumes nothing.
-use Prim.Native.Nat.{ℕ, _+_, _*_, _≤_, _<_}
+use Prim.Native.Nat.{ℕ, zero, suc, _+_, _-_, _*_, _≤_, _<_}
 use mathlib.Core.Path.{_≡_, refl, sym, ap, _∙_}
 use mathlib.Core.Bool.{Bool, true, false}
 use mathlib.Core.List.{List, [], _∷_, _++_}
 use mathlib.Core.Logic.{⊎-elim}
 use native.Mathlib.Omega.{arith}
-use borrow.Author.Tests.{eqb-true, eqb-false}
+use borrow.Author.Tests.{eqb-true, eqb-false, le-ltb, lt-leb}
 use lib.Dec.{eqb}
 use lib.ListN.{length, getD, take, drop, length-drop}
-use lib.Seq.{length-take-le}
+use lib.Seq.{length-take-le, getD-drop}
 use types.Run.{OneOf}
 use denote.Enum.Declared.{tagOf}
 use Rattle.words.specs.Sizes.{SLICE_SIZE}
 use Rattle.words.specs.Choice.{pick}
-use Rattle.words.specs.Lists.{splice}
+use Rattle.words.specs.Lists.{splice, holds}
 use Rattle.words.specs.Refusal.{numberOf}
 use Rattle.words.specs.declared.Refusal.{Refusal}
 use Rattle.words.proofs.Lists.{holds-le}
@@ -47,6 +47,38 @@ charge-most k v some = pick-cases (λ n. n ≤ SLICE_SIZE * k .«num_slices») (
 -- while pieces are to come fewer are here than the message has
 pub still-open : (k : SliceConstructor) → c.Valid k → c.isWhole k ≡ false → k .«num_received_slices» < k .«num_slices»
 still-open k v e = let other : k .«num_received_slices» ≡ k .«num_slices» → ⊥ = eqb-false _ _ e in omega (arith, received-most k v, other)
+
+-- ---- a repeat: a piece that is here already
+
+some-held : (l : List Bool) (j : ℕ) → getD l j false ≡ true → 1 ≤ holds l
+unfolding holds
+some-held [] j e = clash (cc)
+some-held (true ∷ l) j e = omega arith
+some-held (false ∷ l) zero e = clash (cc)
+some-held (false ∷ l) (suc j) e = some-held l j e
+
+-- no index past the message is here
+received-below : (k : SliceConstructor) → c.Valid k → (i : ℕ) → getD (k .received) i false ≡ true → i < k .«num_slices»
+received-below k v i e =
+    let n : ℕ = k .«num_slices» in
+    let past : n ≤ i → ⊥ = λ h.
+    let same : n + (i - n) ≡ i = omega arith in
+    omega (arith, v .none-past, some-held (drop n (k .received)) (i - n) (getD-drop n (k .received) (i - n) false ∙ rw same e)) in
+    omega (arith, past)
+
+module _ (k : SliceConstructor) (v : c.Valid k) (i n m : ℕ) (room : k .«num_slices» * SLICE_SIZE ≤ m) (here : getD (k .received) i false ≡ true) where
+  -- it is checked for size
+  pub repeat-good : c.sized k i n ≡ true → c.collectRefusal k i n m ≡ 0
+  repeat-good size = cv.not-refused k i n m (record { room = room; low = received-below k v i here; size = size })
+
+  pub repeat-bad : c.sized k i n ≡ false → c.collectRefusal k i n m ≡ 8
+  unfolding c.collectRefusal
+  repeat-bad size = rw (le-ltb _ _ room, lt-leb _ _ (received-below k v i here), size)
+
+  -- and has no effect
+  pub repeat-same : c.taken k i n ≡ k
+  unfolding c.taken
+  repeat-same = rw here
 
 -- ---- whether the piece was refused
 
