@@ -1,14 +1,15 @@
 -- What follows from the promises: what the usage is, that a look and a take agree, that messages come out in order of completion, what a
--- discarding leaves, that a refusal changes nothing, and that each call has one outcome only. Assumes nothing.
+-- discarding leaves, that a refusal changes nothing and a repeat only its id's time, and that each call has one outcome only. Assumes nothing.
 use Prim.Native.Nat.{ℕ, _+_, _-_, _*_, _≤_, _<_}
 use mathlib.Core.Path.{_≡_, refl, sym, ap, _∙_}
 use mathlib.Core.Bool.{true, false}
 use mathlib.Core.List.{List, [], _∷_, map}
 use native.Mathlib.Omega.{arith}
-use borrow.Author.Tests.{ltb-false, eqb-true}
+use borrow.Author.Tests.{ltb-true, ltb-false, lt-leb, le-ltb, ne-eqb, eq-eqb, eqb-true}
 use lib.Dec.{ltb, eqb}
-use lib.ListN.{length, getD, take, drop}
-use Rattle.words.specs.Sizes.{SLICE_SIZE, SLOTS, LANES, PIECES, MAX_MEMORY}
+use lib.ListN.{length, getD, set, take, drop}
+use lib.Seq.{set-getD}
+use Rattle.words.specs.Sizes.{SLICE_SIZE, SLOTS, LANES, PIECES, MAX_MEMORY, LIMIT}
 use Rattle.words.specs.Choice.{pick}
 use Rattle.words.specs.Lists.{splice, first, sumBelow}
 use Rattle.words.proofs.Unique.{told-apart, refusalOf, refusal-undone}
@@ -18,10 +19,13 @@ use Rattle.channel.specs.Find.{heldAt}
 use Rattle.channel.specs.declared.Settings.{Settings}
 use Rattle.channel.specs.declared.Setup.{Setup}
 use Rattle.channel.proofs.Unique.{one-setup}
+use Rattle.channel.proofs.Held.{Here}
 use Rattle.slice_constructor.specs.declared.SliceConstructor.{SliceConstructor}
 use Rattle.slice_constructor.specs.Collect as c
 use Rattle.slice_constructor.proofs.Valid as cv
-use Rattle.receive_unreliable.specs.Receive.{DISCARD_AFTER, newOf, constructorAt, Place, at-cell, at-lane, no-place, nextPlace, Outcome, taken, dropped, refused, arrivalOf, MessageSpot, cell, nowhere, messageSpot, messageAnswer, messageState, messageBytes, SliceSpot, opened, fresh, nothing, laneSpot, pieceRefusal, settled, openLane, freshLane, entryRefusal, sliceSpot, withOpen, withPiece, sliceAnswer, sliceState, sliceBytes, lowestId, goesOn, withoutOpen, walkCount, atTime, Discarding, gone, kept, discardOf, discardAnswer, discardState, Waiting, message, none-waiting, refusing, shownAt, lookOf, lookAt, partAt, removed, MadeGives, MessageGives, SliceGives, DiscardGives, TakeGives, Valid}
+use Rattle.slice_constructor.proofs.Part.{repeat-good, repeat-bad, repeat-same}
+use Rattle.receive_unreliable.specs.Receive.{DISCARD_AFTER, newOf, laneOf, constructorAt, Place, at-cell, at-lane, no-place, nextPlace, Outcome, taken, dropped, refused, arrivalOf, MessageSpot, cell, nowhere, messageSpot, messageAnswer, messageState, messageBytes, SliceSpot, opened, fresh, nothing, laneSpot, pieceRefusal, settled, openLane, freshLane, entryRefusal, sliceSpot, withOpen, withPiece, sliceAnswer, sliceState, sliceBytes, lowestId, goesOn, withoutOpen, walkCount, atTime, Discarding, gone, kept, discardOf, discardAnswer, discardState, Waiting, message, none-waiting, refusing, shownAt, lookOf, lookAt, partAt, removed, MadeGives, MessageGives, SliceGives, DiscardGives, TakeGives, Valid}
+use Rattle.receive_unreliable.specs.Repeats.{Repeats, renewed}
 use Rattle.receive_unreliable.specs.Views.{cellUse, laneUse, messages, afterMessage, afterSlice}
 use Rattle.receive_unreliable.specs.declared.ReceiveChannelUnreliable.{ReceiveChannelUnreliable}
 use Rattle.receive_unreliable.specs.declared.Made.{Made}
@@ -34,9 +38,9 @@ use Rattle.receive_unreliable.specs.declared.Discarded.{Discarded}
 use Rattle.receive_unreliable.specs.declared.Look.{Look}
 use Rattle.receive_unreliable.specs.declared.Look.the-variants as look
 use Rattle.receive_unreliable.specs.declared.Received.{Received}
-use Rattle.receive_unreliable.proofs.Spots.{Lies, lies, spot-cell, open-fits, fresh-fits}
+use Rattle.receive_unreliable.proofs.Spots.{Lies, lies, lane-here, spot-cell, open-fits, fresh-fits}
 use Rattle.receive_unreliable.proofs.Gives.{fits-taken}
-use Rattle.receive_unreliable.proofs.Valid.{time-valid}
+use Rattle.receive_unreliable.proofs.Valid.{lane-used, open-held, time-valid}
 use Rattle.receive_unreliable.proofs.Walk.{time-walk-ends}
 use Rattle.receive_unreliable.proofs.Order.{elsewhere, message-last, piece-order, walk-order, time-order, cell-first, lane-first}
 
@@ -74,6 +78,9 @@ arrival-undone arrival.Taken = refl
 arrival-undone arrival.Dropped = refl
 arrival-undone (arrival.Refused e) = ap arrival.Refused (refusal-undone e)
 
+same-arrival : (a b : Arrival) → arrivalOf a ≡ arrivalOf b → a ≡ b
+same-arrival = told-apart arrivalOf arrivalFrom arrival-undone
+
 abbrev discardFrom : Discarding → Discard
 discardFrom (gone n) = discard.Discarded n
 discardFrom (kept n) = discard.Refused (refusalOf n)
@@ -103,7 +110,7 @@ one-made s r q x y =
 
 one-arrived : (r q : Arrived) → arrivalOf (r .answer) ≡ arrivalOf (q .answer) → r .state ≡ q .state → r ≡ q
 one-arrived r q e t =
-    ap (λ (b : Arrival). record { answer = b; state = r .state }) (told-apart arrivalOf arrivalFrom arrival-undone (r .answer) (q .answer) e)
+    ap (λ (b : Arrival). record { answer = b; state = r .state }) (same-arrival (r .answer) (q .answer) e)
     ∙ ap (λ (u : ReceiveChannelUnreliable). record { answer = q .answer; state = u }) t
 
 pub one-message : (s : ReceiveChannelUnreliable) (bs small lane small₁ small₂ : List ℕ) (r q : Arrived)
@@ -310,3 +317,68 @@ discard-ends s v t n r g h =
     (pick-cases (λ u. goesOn u t ≡ false) (ltb t (s .latest))
     (λ e. let k : discardOf (r .answer) ≡ kept 14 = rw e at (g .answer) in clash (cc))
     (λ e. time-walk-ends s v t (ltb-false _ _ e)))
+
+-- ---- "A repeat is checked for size, then accepted without effect, but an unreliable one renews its id's time": no byte changes, whatever
+-- bytes it has, and of the state that time and the latest accepted one alone
+
+module _ (s : ReceiveChannelUnreliable) (v : Valid s) (id num i : ℕ) (bs : List ℕ) (t : ℕ) (small lane lane' : List ℕ) (r : Arrived)
+    (g : SliceGives s id num i bs t small lane lane' r) (stores : storesHold (s .settings) (length small) (length lane) ≡ true) (later : s .latest ≤ t)
+    (p : Repeats s id num i) where
+  low : laneOf s id < LANES
+  low = ltb-true (laneOf s id) LANES (p .lane)
+
+  here : Here (s .opens) (s .«lane_ids») id (laneOf s id)
+  here = lane-here s v id low
+
+  room : constructorAt s (laneOf s id) .«num_slices» * SLICE_SIZE ≤ laneLen (s .settings)
+  room = let f = v .lane (laneOf s id) low in omega (arith, f .opened (here .held) .charged, f .long)
+
+  spot : laneSpot s id num t (length small) (length lane) ≡ opened (laneOf s id)
+  unfolding laneSpot entryRefusal openLane
+  spot =
+      let o = v .lane (laneOf s id) low .opened (here .held) in
+      let below : id < LIMIT = rw (here .named) at (o .below) in
+      let some : num ≡ 0 → ⊥ = λ z. absurd (omega (arith, o .some, p .count)) in
+      let most : num ≤ s .settings .pieces = omega (arith, room, p .count) in
+      rw (stores, lt-leb _ _ below, le-ltb _ _ later, ne-eqb _ _ some, le-ltb _ _ most, p .lane, eq-eqb _ _ (p .count))
+
+  time-alone : withPiece s (laneOf s id) (constructorAt s (laneOf s id)) t ≡ renewed s (laneOf s id) t
+  unfolding withPiece withOpen renewed
+  time-alone =
+      let l : ℕ = laneOf s id in
+      let o = v .lane l low .opened (here .held) in
+      let still : c.isWhole (constructorAt s l) ≡ false = ne-eqb (constructorAt s l .«num_received_slices») (constructorAt s l .«num_slices») (λ e. absurd (omega (arith, o .more))) in
+      let usage : s .«memory_usage_bytes» - getD (s .«lane_lens») l 0 + SLICE_SIZE * constructorAt s l .«num_slices» ≡ s .«memory_usage_bytes» = omega (arith, o .charged, lane-used s v l low) in
+      rw (
+        still,
+        usage,
+        rw (open-held s v l low (here .held)) at (set-getD (s .lanes) l false),
+        rw (here .held) at (set-getD (s .opens) l false),
+        rw (← o .named) at (set-getD (s .«lane_ids») l 0),
+        rw (o .charged) at (set-getD (s .«lane_lens») l 0),
+        set-getD (s .constructors) l (c.blankOf 0 0),
+      )
+
+  -- of the right size
+  pub repeat-accepted : c.sized (constructorAt s (laneOf s id)) i (length bs) ≡ true → (r .answer ≡ arrival.Taken) × (r .state ≡ renewed s (laneOf s id) t) × (lane' ≡ lane)
+  unfolding sliceSpot
+  repeat-accepted size =
+      let l : ℕ = laneOf s id in
+      let f = v .lane l low .constructor in
+      let e : sliceSpot s id num i (length bs) t (length small) (length lane) ≡ opened l =
+      ap (settled s id num i (length bs)) spot ∙ rw (repeat-good (constructorAt s l) f i (length bs) (laneLen (s .settings)) room (p .here) size) in
+      let unmoved : c.taken (constructorAt s l) i (length bs) ≡ constructorAt s l = repeat-same (constructorAt s l) f i (length bs) (laneLen (s .settings)) room (p .here) in (
+        same-arrival (r .answer) arrival.Taken (g .answer ∙ ap sliceAnswer e),
+        rw e at (g .state) ∙ ap (λ (k : SliceConstructor). withPiece s l k t) unmoved ∙ time-alone,
+        rw (e, p .here) at (g .bytes),
+      )
+
+  -- one of a wrong size renews no time
+  pub repeat-refused : c.sized (constructorAt s (laneOf s id)) i (length bs) ≡ false → (arrivalOf (r .answer) ≡ refused 8) × (r .state ≡ s) × (lane' ≡ lane)
+  unfolding sliceSpot
+  repeat-refused size =
+      let l : ℕ = laneOf s id in
+      let f = v .lane l low .constructor in
+      let e : sliceSpot s id num i (length bs) t (length small) (length lane) ≡ nothing (refused 8) =
+      ap (settled s id num i (length bs)) spot ∙ rw (repeat-bad (constructorAt s l) f i (length bs) (laneLen (s .settings)) room (p .here) size) in
+      (g .answer ∙ ap sliceAnswer e, rw e at (g .state), rw e at (g .bytes))

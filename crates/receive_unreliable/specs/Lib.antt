@@ -1,3 +1,4 @@
 pub mod Receive
+pub mod Repeats
 pub mod Steps
 pub mod Views
