@@ -1,6 +1,6 @@
 -- Settings that were not refused are good, and bound the stores that they ask for. Assumes nothing.
 use Prim.Native.Nat.{ℕ, _+_, _*_, _≤_, _<_}
-use mathlib.Core.Path.{_≡_, refl, _∙_}
+use mathlib.Core.Path.{_≡_, refl, sym, _∙_}
 use mathlib.Core.Bool.{Bool, true, false}
 use mathlib.Core.List.{[], _∷_}
 use native.Mathlib.Nat.{suc-mul, mul-le-mul, mul-le-mul-right}
@@ -10,9 +10,13 @@ use lib.Dec.{ltb, leb}
 use Rattle.words.specs.Sizes.{SLICE_SIZE, SLOTS, LANES, PIECES, MAX_MEMORY}
 use Rattle.words.specs.Choice.{pick}
 use Rattle.words.specs.Lists.{All}
+use Rattle.words.specs.Refusal.{numberOf}
+use Rattle.words.specs.declared.Refusal.{Refusal}
 use Rattle.words.proofs.Lists.{none-refused}
-use Rattle.channel.specs.Settings.{settingsRefusal, Good, leastSettings, smallLen, laneLen, lanesLen, storesHold}
+use Rattle.words.proofs.Unique.{numbered-above}
+use Rattle.channel.specs.Settings.{settingsRefusal, SettledGives, Good, leastSettings, smallLen, laneLen, lanesLen, storesHold}
 use Rattle.channel.specs.declared.Settings.{Settings}
+use Rattle.channel.specs.declared.Setup.the-variants.{Ready, Refused}
 
 pub good : (s : Settings) → settingsRefusal s ≡ 0 → Good s
 unfolding settingsRefusal All
@@ -40,6 +44,14 @@ good s e =
 
 pub least-good : Good leastSettings
 least-good = record { slots-one = omega arith; slots-most = omega arith; lanes-one = omega arith; lanes-most = omega arith; pieces-one = omega arith; pieces-most = omega arith; max-most = omega arith }
+
+-- what is settled, by the judgement
+module _ (s : Settings) where
+  pub settled-ready : settingsRefusal s ≡ 0 → SettledGives s (record { answer = Ready; settings = s })
+  settled-ready e = record { number = sym e; settings = rw e; good = good s e }
+
+  pub settled-refused : (e : Refusal) → settingsRefusal s ≡ numberOf e → SettledGives s (record { answer = Refused e; settings = leastSettings })
+  settled-refused e h = record { number = sym h; settings = rw (h, numbered-above e); good = least-good }
 
 pub lane-most : (s : Settings) → Good s → laneLen s ≤ PIECES * SLICE_SIZE
 lane-most s g = omega (arith, g .pieces-most)

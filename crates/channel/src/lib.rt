@@ -1,8 +1,9 @@
-// What the four channel ends share: settings and how they are judged, the two stores that they ask
-// for, and the search of a table by id.
+// What the channel ends share: settings and how they are judged, the two stores that they ask for,
+// a part of a store, and the search of a table by id.
 ghost use mathlib.Core.Path.{_≡_};
-ghost use lib.ListN.{length};
-ghost use Rattle.channel.specs.Settings.{setupNumber, settingsRefusal, Good, storesHold};
+ghost use Prim.Native.Nat.{_+_, _≤_};
+ghost use lib.ListN.{length, take, drop};
+ghost use Rattle.channel.specs.Settings.{setupNumber, settingsRefusal, SettledGives, Good, storesHold};
 ghost use Rattle.channel.specs.Find.{heldAt};
 use words::LANES;
 use words::MAX_MEMORY;
@@ -24,6 +25,12 @@ pub struct Settings {
 pub enum Setup {
     Ready,
     Refused(Refusal),
+}
+
+// Whether it was, and the settings that it has.
+pub struct Settled {
+    pub answer: Setup,
+    pub settings: Settings,
 }
 
 impl Settings {
@@ -55,6 +62,31 @@ impl Settings {
         Setup::Ready
     }
 
+    // Judges the settings; the least ones stand for settings that are refused.
+    pub fn settle(self) -> Settled
+        ensures { λ r. ⌜ SettledGives self r ⌝ }
+    {
+        let answer = self.judge();
+        match answer {
+            Setup::Ready => Settled {
+                answer: Setup::Ready,
+                settings: self,
+            },
+            Setup::Refused(e) => {
+                let least = Settings {
+                    slots: 1,
+                    lanes: 1,
+                    pieces: 1,
+                    max_memory_usage_bytes: 0,
+                };
+                Settled {
+                    answer: Setup::Refused(e),
+                    settings: least,
+                }
+            }
+        }
+    }
+
     // Whether a store for small messages and one for lanes, of these lengths, are long enough.
     pub fn stores_hold(self, small: usize, lane: usize) -> bool
         requires { ⌜ Good self ⌝ }
@@ -65,6 +97,14 @@ impl Settings {
         }
         self.lanes * (self.pieces * SLICE_SIZE) <= lane
     }
+}
+
+// The part of a store at a place, so many bytes long.
+pub fn part<'a>(store: &'a [u8], place: usize, len: usize) -> &'a [u8]
+    requires { ⌜ place + len ≤ length (now store) ⌝ }
+    ensures { λ r. ⌜ now r ≡ take len (drop place (now (store .entry))) ⌝ }
+{
+    &store[place..place + len]
 }
 
 // The place of the first held entry with an id, or the length of the table.

@@ -24,7 +24,7 @@ use Rattle.receive_reliable.specs.declared.Look.{Look}
 use Rattle.receive_reliable.specs.declared.Look.the-variants as look
 use Rattle.receive_reliable.proofs.Look as Look′
 use Rattle.receive_reliable.specs.declared.Arrival.the-variants as arrival
-use Rattle.words.proofs.Tables.{clash, part-size}
+use Rattle.words.proofs.Tables.{clash}
 
 -- ---- what every arrival is judged by first
 
@@ -185,8 +185,8 @@ module _ (w : Waiting) (small lane : List ℕ) where
     empty (look.Refused e) k = refl
 
   module _ (id place len : ℕ) where
-    pub small-part : w ≡ message id Small place len → take (place + len - place) (drop place small) ≡ partAt w small lane
-    small-part e = rw (e, part-size place len)
+    pub small-part : w ≡ message id Small place len → take len (drop place small) ≡ partAt w small lane
+    small-part e = rw e
 
-    pub lane-part : w ≡ message id Lanes place len → take (place + len - place) (drop place lane) ≡ partAt w small lane
-    lane-part e = rw (e, part-size place len)
+    pub lane-part : w ≡ message id Lanes place len → take len (drop place lane) ≡ partAt w small lane
+    lane-part e = rw e

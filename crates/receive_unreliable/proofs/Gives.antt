@@ -16,12 +16,11 @@ use Rattle.words.specs.Lists.{splice}
 use Rattle.words.specs.Refusal.{numberOf}
 use Rattle.words.specs.declared.Refusal.{Refusal}
 use Rattle.words.specs.declared.Refusal.the-variants.{ClockBack}
-use Rattle.words.proofs.Tables.{getD-any, none-held, part-size}
-use Rattle.words.proofs.Unique.{numbered-above}
-use Rattle.channel.specs.Settings.{settingsRefusal, leastSettings, laneLen, storesHold}
+use Rattle.words.proofs.Tables.{getD-any, none-held}
+use Rattle.channel.specs.Settings.{SettledGives, laneLen, storesHold}
 use Rattle.channel.specs.declared.Settings.{Settings}
-use Rattle.channel.specs.declared.Setup.the-variants as setup
-use Rattle.channel.proofs.Good.{good, least-good, lane-within}
+use Rattle.channel.specs.declared.Settled.{Settled}
+use Rattle.channel.proofs.Good.{lane-within}
 use Rattle.slice_constructor.specs.declared.SliceConstructor.{SliceConstructor}
 use Rattle.slice_constructor.specs.declared.Collected.{Collected}
 use Rattle.slice_constructor.specs.declared.Collect.the-variants as collect
@@ -50,12 +49,8 @@ use Rattle.receive_unreliable.proofs.Walk.{walk-valid}
 
 -- ---- a new receiver
 
-module _ (s : Settings) (t : ReceiveChannelUnreliable) where
-  pub made-ready : settingsRefusal s ≡ 0 → t ≡ newOf s → MadeGives s (record { answer = setup.Ready; state = t })
-  made-ready e et = record { number = sym e; state = rw e et; valid = rw et (new-valid s (good s e)) }
-
-  pub made-refused : (e : Refusal) → settingsRefusal s ≡ numberOf e → t ≡ newOf leastSettings → MadeGives s (record { answer = setup.Refused e; state = t })
-  made-refused e h et = record { number = sym h; state = rw (h, numbered-above e) et; valid = rw et (new-valid leastSettings least-good) }
+pub made : (s : Settings) (d : Settled) (t : ReceiveChannelUnreliable) → SettledGives s d → t ≡ newOf (d .settings) → MadeGives s (record { answer = d .answer; state = t })
+made s d t g et = record { number = g .number; state = et ∙ ap newOf (g .settings); valid = rw et (new-valid (d .settings) (g .good)) }
 
 -- ---- what a place says
 
@@ -272,8 +267,8 @@ module _ (w : Waiting) (small lane : List ℕ) where
     empty (look.Refused e) k = refl
 
   module _ (place len : ℕ) where
-    pub small-part : w ≡ message Small place len → take (place + len - place) (drop place small) ≡ partAt w small lane
-    small-part e = rw (e, part-size place len)
+    pub small-part : w ≡ message Small place len → take len (drop place small) ≡ partAt w small lane
+    small-part e = rw e
 
-    pub lane-part : w ≡ message Lanes place len → take (place + len - place) (drop place lane) ≡ partAt w small lane
-    lane-part e = rw (e, part-size place len)
+    pub lane-part : w ≡ message Lanes place len → take len (drop place lane) ≡ partAt w small lane
+    lane-part e = rw e

@@ -127,29 +127,11 @@ impl ReceiveChannelUnreliable {
     pub fn new(settings: Settings) -> Made
         ensures { λ r. ⌜ MadeGives settings r ⌝ }
     {
-        let answer = settings.judge();
-        match answer {
-            Setup::Ready => {
-                let state = ReceiveChannelUnreliable::empty(settings);
-                Made {
-                    answer: Setup::Ready,
-                    state,
-                }
-            }
-            Setup::Refused(e) => {
-                let least = Settings {
-                    slots: 1,
-                    lanes: 1,
-                    pieces: 1,
-                    max_memory_usage_bytes: 0,
-                };
-                let state = ReceiveChannelUnreliable::empty(least);
-                Made {
-                    answer: Setup::Refused(e),
-                    state,
-                }
-            }
-        }
+        let settled = settings.settle();
+        let answer = settled.answer;
+        let used = settled.settings;
+        let state = ReceiveChannelUnreliable::empty(used);
+        Made { answer, state }
     }
 
     // Takes a small message: its bytes go to the front of the lowest free cell, and it waits as the
@@ -314,8 +296,8 @@ impl ReceiveChannelUnreliable {
             return &small[..0];
         };
         match store {
-            Store::Small => &small[place..place + len],
-            Store::Lanes => &lanes[place..place + len],
+            Store::Small => channel::part(small, place, len),
+            Store::Lanes => channel::part(lanes, place, len),
         }
     }
 

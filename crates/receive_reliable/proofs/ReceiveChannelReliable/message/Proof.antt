@@ -1,7 +1,6 @@
 -- `ReceiveChannelReliable::message` meets its contract: what a look shows lies within its store. Assumes nothing.
 use Prim.Native.Nat.{_+_, _≤_}
 use mathlib.Core.Path.{_≡_, sym, ap, _∙_}
-use native.Mathlib.Omega.{arith}
 use lib.ListN.{length}
 use Rattle.receive_reliable.specs.Receive.{message, lookOf, lookAt}
 use Rattle.receive_reliable.specs.declared.Store.the-variants.{Small, Lanes}
@@ -45,38 +44,20 @@ returns c = no-part _ _ _ (c .before .before .look .result) (c .before .before .
 enum-told : tie.Need-enum-told
 enum-told c = search needs
 
-add-result : tie.Need-add-result
-add-result c = let h = small-within c in omega arith
-
-sub-result : tie.Need-sub-result
-sub-result c = search needs
-
-part-result-start : tie.Need-part-result-start
-part-result-start c = search needs
-
-part-result-end : tie.Need-part-result-end
-part-result-end c = let h = small-within c in omega arith
+part-requires : tie.Need-part-requires
+part-requires c κs = small-within c
 
 enum-told-2 : tie.Need-enum-told-2
 enum-told-2 c = search needs
 
-add-result-2 : tie.Need-add-result-2
-add-result-2 c = let h = lane-within c in omega arith
-
-sub-result-2 : tie.Need-sub-result-2
-sub-result-2 c = search needs
-
-part-result-start-2 : tie.Need-part-result-start-2
-part-result-start-2 c = search needs
-
-part-result-end-2 : tie.Need-part-result-end-2
-part-result-end-2 c = let h = lane-within c in omega arith
+part-requires-2 : tie.Need-part-requires-2
+part-requires-2 c κs = lane-within c
 
 returns-2 : tie.Need-returns-2
-returns-2 c = small-part _ _ _ _ _ _ (in-small (c .before))
+returns-2 c = c .part .ensures ∙ small-part _ _ _ _ _ _ (in-small (c .before))
 
 returns-3 : tie.Need-returns-3
-returns-3 c = lane-part _ _ _ _ _ _ (in-lanes (c .before))
+returns-3 c = c .part2 .ensures ∙ lane-part _ _ _ _ _ _ (in-lanes (c .before))
 
 pub message-spec : {M : Type 1} → statement M
 message-spec =
@@ -87,14 +68,8 @@ message-spec =
     slice-aggregate-result
     returns
     enum-told
-    add-result
-    sub-result
-    part-result-start
-    part-result-end
+    part-requires
     enum-told-2
-    add-result-2
-    sub-result-2
-    part-result-start-2
-    part-result-end-2
+    part-requires-2
     returns-2
     returns-3)
