@@ -15,7 +15,7 @@ use Rattle.words.specs.Choice.{pick}
 use Rattle.words.specs.Lists.{lowestFree}
 use Rattle.channel.specs.Settings.{storesHold}
 use Rattle.receive_reliable.specs.Receive.{laneOf, inLane, isHeld, ignores, Outcome, taken, ignored, refused, arrivalOf, judged, entryRefusal, messageRefusal, MessageSpot, cell, nowhere, messageSpot, SliceSpot, opened, fresh, nothing, countRefusal, freshRefusal, constructorAt, Waiting, message, lookOf, partAt}
-use Rattle.receive_reliable.specs.Steps.{entryOf, told, messagePlaceOf, slicePlaceOf, noCell, noLane, openLane, freshLane, laneSpot}
+use Rattle.receive_reliable.specs.Steps.{entryOf, told, messageTo, slicePlaceOf, noLane, openLane, freshLane, laneSpot}
 use Rattle.receive_reliable.specs.declared.ReceiveChannelReliable.{ReceiveChannelReliable}
 use Rattle.receive_reliable.specs.declared.Store.the-variants.{Small, Lanes}
 use Rattle.receive_reliable.specs.declared.Arrival.{Arrival}
@@ -82,8 +82,8 @@ module _ (s : ReceiveChannelReliable) (id n small lane : ℕ) where
   unfolding messageOn entryOf messageSpot
   message-goes = gone nowhere messageOn (eqb (entryRefusal s id small lane) 0) (ignores s id) (entryRefusal s id small lane)
 
-  pub message-stops : (a : Arrival) → arrivalOf a ≡ entryOf s id small lane → OneOf (1 ∷ 2 ∷ []) (tagOf the-type a) → messagePlaceOf (noCell a) ≡ messageSpot s id n small lane
-  message-stops a e k = stops nowhere (cell 0) messageOn a k ∙ ap (told nowhere messageOn) e ∙ message-goes
+  pub message-stops : (i : ℕ) (a : Arrival) → arrivalOf a ≡ entryOf s id small lane → OneOf (1 ∷ 2 ∷ []) (tagOf the-type a) → messageTo i a ≡ messageSpot s id n small lane
+  message-stops i a e k = stops nowhere (cell i) messageOn a k ∙ ap (told nowhere messageOn) e ∙ message-goes
 
   module _ (go : taken ≡ entryOf s id small lane) where
     message-on : messageOn ≡ messageSpot s id n small lane

@@ -28,12 +28,11 @@ use Rattle.slice_constructor.proofs.Collect as Collect′
 use Rattle.slice_constructor.proofs.Valid as cv
 use Rattle.slice_constructor.proofs.Part.{charge-most, piece-refused, piece-good, taken-now, store-back}
 use Rattle.receive_reliable.specs.Receive.{newOf, MadeGives, Outcome, refused, arrivalOf, MessageSpot, cell, nowhere, messageSpot, withMessage, MessageGives, SliceSpot, opened, fresh, nothing, constructorAt, placed, sliceSpot, withLane, SliceGives, lookOf, withoutCell, withoutLane, TakeGives, Valid}
-use Rattle.receive_reliable.specs.Steps.{heldIn, shownAt, told, messagePlaceOf, slicePlaceOf, laneSpot, Fits, pieceRefusal}
+use Rattle.receive_reliable.specs.Steps.{heldIn, shownAt, told, messageTo, slicePlaceOf, laneSpot, Fits, pieceRefusal}
 use Rattle.receive_reliable.specs.declared.ReceiveChannelReliable.{ReceiveChannelReliable}
 use Rattle.receive_reliable.specs.declared.Arrival.{Arrival}
 use Rattle.receive_reliable.specs.declared.Arrival.the-variants as arrival
 use Rattle.receive_reliable.proofs.Arrival as Arrival′
-use Rattle.receive_reliable.specs.declared.MessagePlace.{MessagePlace}
 use Rattle.receive_reliable.specs.declared.SlicePlace.{SlicePlace}
 use Rattle.receive_reliable.specs.declared.Store.the-variants.{Small, Lanes}
 use Rattle.receive_reliable.specs.declared.Look.{Look}
@@ -77,8 +76,8 @@ not-taken f x arrival.Taken k = ⊎-elim (λ e. absurd (omega arith)) (λ e. abs
 not-taken f x arrival.Ignored k = refl
 not-taken f x (arrival.Refused e) k = refl
 
-pub cell-told : (p : MessagePlace) (spot : MessageSpot) → messagePlaceOf p ≡ spot → p .answer ≡ arrival.Taken → spot ≡ cell (p .cell)
-cell-told p spot e h = sym e ∙ ap (λ (a : Arrival). told nowhere (cell (p .cell)) (arrivalOf a)) h
+pub cell-told : (i : ℕ) (a : Arrival) (spot : MessageSpot) → messageTo i a ≡ spot → a ≡ arrival.Taken → spot ≡ cell i
+cell-told i a spot e h = sym e ∙ ap (messageTo i) h
 
 pub lane-told : (p : SlicePlace) (spot : SliceSpot) → slicePlaceOf p ≡ spot → p .answer ≡ arrival.Taken → spot ≡ pick (p .fresh) (fresh (p .lane)) (opened (p .lane))
 lane-told p spot e h = sym e ∙ ap (λ (a : Arrival). told nothing (pick (p .fresh) (fresh (p .lane)) (opened (p .lane))) (arrivalOf a)) h
@@ -86,10 +85,10 @@ lane-told p spot e h = sym e ∙ ap (λ (a : Arrival). told nothing (pick (p .fr
 -- ---- a small message
 
 module _ (s : ReceiveChannelReliable) (v : Valid s) (id : ℕ) (bs small lane : List ℕ) where
-  pub message-left : (p : MessagePlace) → messagePlaceOf p ≡ messageSpot s id (length bs) (length small) (length lane)
-      → OneOf (1 ∷ 2 ∷ []) (tagOf Arrival′.the-type (p .answer)) → MessageGives s id bs small lane small (record { answer = p .answer; state = s })
-  message-left p e k =
-      let n = sym e ∙ not-taken nowhere (cell (p .cell)) (p .answer) k in
+  pub message-left : (i : ℕ) (a : Arrival) → messageTo i a ≡ messageSpot s id (length bs) (length small) (length lane)
+      → OneOf (1 ∷ 2 ∷ []) (tagOf Arrival′.the-type a) → MessageGives s id bs small lane small (record { answer = a; state = s })
+  message-left i a e k =
+      let n = sym e ∙ not-taken nowhere (cell i) a k in
       record { answer = rw n; state = rw n; bytes = rw n; valid = v }
 
   pub message-taken : (i : ℕ) (small' : List ℕ) (t : ReceiveChannelReliable) → messageSpot s id (length bs) (length small) (length lane) ≡ cell i

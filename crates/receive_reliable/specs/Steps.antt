@@ -18,7 +18,6 @@ use Rattle.receive_reliable.specs.declared.Store.{Store}
 use Rattle.receive_reliable.specs.declared.Store.the-variants.{Small, Lanes}
 use Rattle.receive_reliable.specs.declared.Held.{Held}
 use Rattle.receive_reliable.specs.declared.Held.the-variants as held
-use Rattle.receive_reliable.specs.declared.MessagePlace.{MessagePlace}
 use Rattle.receive_reliable.specs.declared.SlicePlace.{SlicePlace}
 
 -- where a message is, by its cell and its lane, which are past the tables where it has none
@@ -45,16 +44,14 @@ told f a taken = a
 told f a ignored = f ignored
 told f a (refused e) = f (refused e)
 
-abbrev pub messagePlaceOf : MessagePlace → MessageSpot
-messagePlaceOf p = told nowhere (cell (p .cell)) (arrivalOf (p .answer))
+-- where a small message goes that is told so, with cell i free for it
+abbrev pub messageTo : ℕ → Arrival → MessageSpot
+messageTo i a = told nowhere (cell i) (arrivalOf a)
 
 abbrev pub slicePlaceOf : SlicePlace → SliceSpot
 slicePlaceOf p = told nothing (pick (p .fresh) (fresh (p .lane)) (opened (p .lane))) (arrivalOf (p .answer))
 
 -- no place
-abbrev pub noCell : Arrival → MessagePlace
-noCell a = record { answer = a; cell = 0 }
-
 abbrev pub noLane : Arrival → SlicePlace
 noLane a = record { answer = a; lane = 0; fresh = false }
 

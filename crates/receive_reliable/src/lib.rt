@@ -6,7 +6,7 @@ ghost use lib.ListN.{length};
 ghost use Rattle.words.specs.Lists.{lowestFree};
 ghost use Rattle.channel.specs.Find.{heldAt};
 ghost use Rattle.receive_reliable.specs.Receive.{Valid, newOf, MadeGives, arrivalOf, MessageGives, messageSpot, SliceGives, lookAt, lookOf, partAt, TakeGives};
-ghost use Rattle.receive_reliable.specs.Steps.{heldBy, heldIn, entryOf, messagePlaceOf, slicePlaceOf, noCell, noLane, freshLane, laneSpot};
+ghost use Rattle.receive_reliable.specs.Steps.{heldBy, heldIn, entryOf, messageTo, slicePlaceOf, noLane, freshLane, laneSpot};
 use channel::Settings;
 use channel::Setup;
 use slice_constructor::Collect;
@@ -78,12 +78,6 @@ enum Held {
     Nothing,
 }
 
-// What a small message is told, and the cell that it goes to where it is taken.
-struct MessagePlace {
-    answer: Arrival,
-    cell: usize,
-}
-
 // What a piece is told, and the lane that it goes to where it is taken; whether that one is new.
 struct SlicePlace {
     answer: Arrival,
@@ -126,20 +120,18 @@ impl ReceiveChannelReliable {
             id,
         );
         let free = words::lowest_free(&self.cells, self.settings.slots);
-        let place = self.message_place(held, free, id, n, small.len(), lanes.len());
-        let answer = place.answer;
+        let answer = self.message_answer(held, free, id, n, small.len(), lanes.len());
         let Arrival::Taken = answer else {
             return Arrived {
                 answer,
                 state: self,
             };
         };
-        let i = place.cell;
-        words::write_bytes(small, i * SLICE_SIZE, message);
+        words::write_bytes(small, free * SLICE_SIZE, message);
         self.memory_usage_bytes += n;
-        self.cells[i] = true;
-        self.cell_ids[i] = id;
-        self.cell_lens[i] = n as u16;
+        self.cells[free] = true;
+        self.cell_ids[free] = id;
+        self.cell_lens[free] = n as u16;
         Arrived {
             answer: Arrival::Taken,
             state: self,
@@ -358,8 +350,8 @@ impl ReceiveChannelReliable {
         Arrival::Refused(Refusal::BadStore)
     }
 
-    // The cell for a small message of n bytes, where `free` is the lowest free one.
-    fn message_place(
+    // What a small message of n bytes is told, where `free` is the lowest free cell.
+    fn message_answer(
         self,
         held: Held,
         free: usize,
@@ -367,30 +359,27 @@ impl ReceiveChannelReliable {
         n: usize,
         small: usize,
         lane: usize,
-    ) -> MessagePlace
+    ) -> Arrival
         requires { ⌜ Valid self × (held ≡ heldIn self id) × (free ≡ lowestFree (self .cells) (self .settings .slots)) ⌝ }
-        ensures { λ r. ⌜ messagePlaceOf r ≡ messageSpot self id n small lane ⌝ }
+        ensures { λ r. ⌜ messageTo free r ≡ messageSpot self id n small lane ⌝ }
     {
         let entry = self.entry(held, id, small, lane);
         let Arrival::Taken = entry else {
-            return no_cell(entry);
+            return entry;
         };
         if SLICE_SIZE < n {
-            return no_cell(Arrival::Refused(Refusal::TooLong));
+            return Arrival::Refused(Refusal::TooLong);
         }
         if let Held::Open(_, _) = held {
-            return no_cell(Arrival::Refused(Refusal::WrongKind));
+            return Arrival::Refused(Refusal::WrongKind);
         }
         if self.settings.max_memory_usage_bytes < self.memory_usage_bytes + n {
-            return no_cell(Arrival::Refused(Refusal::ReliableChannelMaxMemoryReached));
+            return Arrival::Refused(Refusal::ReliableChannelMaxMemoryReached);
         }
         if self.settings.slots <= free {
-            return no_cell(Arrival::Refused(Refusal::TableFull));
+            return Arrival::Refused(Refusal::TableFull);
         }
-        MessagePlace {
-            answer: Arrival::Taken,
-            cell: free,
-        }
+        Arrival::Taken
     }
 
     // The lane for a piece of a message with so many pieces, where `free` is the lowest free one.
@@ -450,13 +439,6 @@ impl ReceiveChannelReliable {
             fresh: true,
         }
     }
-}
-
-// What a small message is told that goes nowhere.
-fn no_cell(answer: Arrival) -> MessagePlace
-    ensures { λ r. ⌜ r ≡ noCell answer ⌝ }
-{
-    MessagePlace { answer, cell: 0 }
 }
 
 // What a piece is told that goes nowhere.

@@ -29,12 +29,11 @@ use Rattle.slice_constructor.proofs.Collect as Collect′
 use Rattle.slice_constructor.proofs.Valid as cv
 use Rattle.slice_constructor.proofs.Part.{piece-refused, piece-good, taken-now, store-back}
 use Rattle.receive_unreliable.specs.Receive.{newOf, MadeGives, constructorAt, Place, at-cell, at-lane, no-place, nextPlace, Outcome, refused, arrivalOf, MessageSpot, cell, nowhere, messageSpot, withMessage, MessageGives, SliceSpot, opened, fresh, nothing, laneSpot, pieceRefusal, sliceSpot, judged, withPiece, SliceGives, walkState, walkCount, atTime, discardAnswer, discardState, DiscardGives, Waiting, message, refusing, shownAt, lookOf, lookAt, partAt, withoutCell, withoutLane, TakeGives, Valid}
-use Rattle.receive_unreliable.specs.Steps.{heldOf, told, messagePlaceOf, slicePlaceOf, Fits}
+use Rattle.receive_unreliable.specs.Steps.{heldOf, told, messageTo, slicePlaceOf, Fits}
 use Rattle.receive_unreliable.specs.declared.ReceiveChannelUnreliable.{ReceiveChannelUnreliable}
 use Rattle.receive_unreliable.specs.declared.Arrival.{Arrival}
 use Rattle.receive_unreliable.specs.declared.Arrival.the-variants as arrival
 use Rattle.receive_unreliable.proofs.Arrival as Arrival′
-use Rattle.receive_unreliable.specs.declared.MessagePlace.{MessagePlace}
 use Rattle.receive_unreliable.specs.declared.SlicePlace.{SlicePlace}
 use Rattle.receive_unreliable.specs.declared.Discard.the-variants as discard
 use Rattle.receive_unreliable.specs.declared.Store.{Store}
@@ -59,8 +58,8 @@ not-taken f x arrival.Taken k = ⊎-elim (λ e. absurd (omega arith)) (λ e. abs
 not-taken f x arrival.Dropped k = refl
 not-taken f x (arrival.Refused e) k = refl
 
-pub cell-told : (p : MessagePlace) (spot : MessageSpot) → messagePlaceOf p ≡ spot → p .answer ≡ arrival.Taken → spot ≡ cell (p .cell)
-cell-told p spot e h = sym e ∙ ap (λ (a : Arrival). told nowhere (cell (p .cell)) (arrivalOf a)) h
+pub cell-told : (i : ℕ) (a : Arrival) (spot : MessageSpot) → messageTo i a ≡ spot → a ≡ arrival.Taken → spot ≡ cell i
+cell-told i a spot e h = sym e ∙ ap (messageTo i) h
 
 pub lane-told : (p : SlicePlace) (spot : SliceSpot) → slicePlaceOf p ≡ spot → p .answer ≡ arrival.Taken → spot ≡ pick (p .fresh) (fresh (p .lane)) (opened (p .lane))
 lane-told p spot e h = sym e ∙ ap (λ (a : Arrival). told nothing (pick (p .fresh) (fresh (p .lane)) (opened (p .lane))) (arrivalOf a)) h
@@ -68,10 +67,10 @@ lane-told p spot e h = sym e ∙ ap (λ (a : Arrival). told nothing (pick (p .fr
 -- ---- a small message
 
 module _ (s : ReceiveChannelUnreliable) (v : Valid s) (bs small lane : List ℕ) where
-  pub message-left : (p : MessagePlace) → messagePlaceOf p ≡ messageSpot s (length bs) (length small) (length lane)
-      → OneOf (1 ∷ 2 ∷ []) (tagOf Arrival′.the-type (p .answer)) → MessageGives s bs small lane small (record { answer = p .answer; state = s })
-  message-left p e k =
-      let n = sym e ∙ not-taken nowhere (cell (p .cell)) (p .answer) k in
+  pub message-left : (i : ℕ) (a : Arrival) → messageTo i a ≡ messageSpot s (length bs) (length small) (length lane)
+      → OneOf (1 ∷ 2 ∷ []) (tagOf Arrival′.the-type a) → MessageGives s bs small lane small (record { answer = a; state = s })
+  message-left i a e k =
+      let n = sym e ∙ not-taken nowhere (cell i) a k in
       record { answer = rw n; state = rw n; bytes = rw n; valid = v }
 
   pub message-taken : (i : ℕ) (small' : List ℕ) (t : ReceiveChannelUnreliable) → messageSpot s (length bs) (length small) (length lane) ≡ cell i

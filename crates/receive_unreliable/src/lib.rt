@@ -10,7 +10,7 @@ ghost use Rattle.words.specs.Sizes.{SLICE_SIZE, LANES, PIECES, LIMIT};
 ghost use Rattle.words.specs.Choice.{pick};
 ghost use Rattle.words.specs.Lists.{lowestFree};
 ghost use Rattle.receive_unreliable.specs.Receive.{ROWS, Valid, newOf, nextPlace, MadeGives, refused, messageSpot, MessageGives, opened, nothing, freshLane, laneSpot, withPiece, SliceGives, lowestId, DiscardGives, lookAt, lookOf, partAt, TakeGives};
-ghost use Rattle.receive_unreliable.specs.Steps.{heldOf, openedBy, openedIn, messagePlaceOf, slicePlaceOf, noCell, noLane, Fits};
+ghost use Rattle.receive_unreliable.specs.Steps.{heldOf, openedBy, openedIn, messageTo, slicePlaceOf, noLane, Fits};
 use channel::Settings;
 use channel::Setup;
 use slice_constructor::Collect;
@@ -109,12 +109,6 @@ enum Opened {
     Nothing,
 }
 
-// What a small message is told, and the cell that it goes to where it is taken.
-struct MessagePlace {
-    answer: Arrival,
-    cell: usize,
-}
-
 // What a piece is told, and the lane that it goes to where it is taken; whether that one is new.
 struct SlicePlace {
     answer: Arrival,
@@ -142,21 +136,19 @@ impl ReceiveChannelUnreliable {
     {
         let n = message.len();
         let free = words::lowest_free(&self.cells, self.settings.slots);
-        let place = self.message_place(free, n, small.len(), lanes.len());
-        let answer = place.answer;
+        let answer = self.message_answer(free, n, small.len(), lanes.len());
         let Arrival::Taken = answer else {
             return Arrived {
                 answer,
                 state: self,
             };
         };
-        let i = place.cell;
-        words::write_bytes(small, i * SLICE_SIZE, message);
+        words::write_bytes(small, free * SLICE_SIZE, message);
         let last = self.count;
         self.memory_usage_bytes += n;
-        self.cells[i] = true;
-        self.cell_lens[i] = n as u16;
-        self.queue[last] = i as u8;
+        self.cells[free] = true;
+        self.cell_lens[free] = n as u16;
+        self.queue[last] = free as u8;
         self.count = last + 1;
         Arrived {
             answer: Arrival::Taken,
@@ -388,28 +380,25 @@ impl ReceiveChannelUnreliable {
         Held::At(Store::Lanes, first - SLOTS)
     }
 
-    // The cell for a small message of n bytes, where `free` is the lowest free one.
-    fn message_place(self, free: usize, n: usize, small: usize, lane: usize) -> MessagePlace
+    // What a small message of n bytes is told, where `free` is the lowest free cell.
+    fn message_answer(self, free: usize, n: usize, small: usize, lane: usize) -> Arrival
         requires { ⌜ Valid self × (free ≡ lowestFree (self .cells) (self .settings .slots)) ⌝ }
-        ensures { λ r. ⌜ messagePlaceOf r ≡ messageSpot self n small lane ⌝ }
+        ensures { λ r. ⌜ messageTo free r ≡ messageSpot self n small lane ⌝ }
     {
         let settings = self.settings;
         if settings.stores_hold(small, lane) {
             if SLICE_SIZE < n {
-                return no_cell(Arrival::Refused(Refusal::TooLong));
+                return Arrival::Refused(Refusal::TooLong);
             }
             if settings.max_memory_usage_bytes < self.memory_usage_bytes + n {
-                return no_cell(Arrival::Dropped);
+                return Arrival::Dropped;
             }
             if settings.slots <= free {
-                return no_cell(Arrival::Refused(Refusal::TableFull));
+                return Arrival::Refused(Refusal::TableFull);
             }
-            return MessagePlace {
-                answer: Arrival::Taken,
-                cell: free,
-            };
+            return Arrival::Taken;
         }
-        no_cell(Arrival::Refused(Refusal::BadStore))
+        Arrival::Refused(Refusal::BadStore)
     }
 
     // The lane for a piece of a message with so many pieces, where `free` is the lowest free one.
@@ -503,13 +492,6 @@ impl ReceiveChannelUnreliable {
         self.last_received[l] = current_time;
         self
     }
-}
-
-// What a small message is told that goes nowhere.
-fn no_cell(answer: Arrival) -> MessagePlace
-    ensures { λ r. ⌜ r ≡ noCell answer ⌝ }
-{
-    MessagePlace { answer, cell: 0 }
 }
 
 // What a piece is told that goes nowhere.

@@ -12,15 +12,15 @@ use borrow.Author.Needs.{needs}
 use Rattle.receive_unreliable.proofs.ReceiveChannelUnreliable.process_message.Statement.{statement}
 use Rattle.receive_unreliable.proofs.ReceiveChannelUnreliable.process_message.Tie as tie
 
-abbrev start : tie.After-message-place → tie.Start
+abbrev start : tie.After-message-answer → tie.Start
 start c = c .before .before .before .before .before .before .before .before
 
 -- the cell that the message goes to
 in-cell : (c : tie.After-enum-told) → (let a = start (c .before .before) .args in
-    messageSpot (a .t1) (length (a .message .now)) (length (a .small .now)) (length (a .lanes .now)) ≡ cell (c .before .before .message-place .result .cell))
-in-cell c = cell-told (c .before .before .message-place .result) _ (c .before .before .message-place .ensures) (c .enum-told .given .1)
+    messageSpot (a .t1) (length (a .message .now)) (length (a .small .now)) (length (a .lanes .now)) ≡ cell (c .before .before .before .lowest-free .result))
+in-cell c = cell-told _ (c .before .before .message-answer .result) _ (c .before .before .message-answer .ensures) (c .enum-told .given .1)
 
-cell-low : (c : tie.After-enum-told) → c .before .before .message-place .result .cell < SLOTS
+cell-low : (c : tie.After-enum-told) → c .before .before .before .lowest-free .result < SLOTS
 cell-low c = let v = start (c .before .before) .pre in omega (arith, spot-cell _ v _ _ _ _ (in-cell c) .1 .low, v .settings .slots-most)
 
 row : (c : tie.After-enum-told) → start (c .before .before) .args .t1 .count < ROWS
@@ -29,14 +29,14 @@ row c = let v = start (c .before .before) .pre in cell-row _ v _ _ (spot-cell _ 
 lowest-free-requires : tie.Need-lowest-free-requires
 lowest-free-requires c κs = search needs
 
-message-place-requires : tie.Need-message-place-requires
-message-place-requires c κs = (c .before .before .before .before .before .before .before .pre, c .lowest-free .ensures)
+message-answer-requires : tie.Need-message-answer-requires
+message-answer-requires c κs = (c .before .before .before .before .before .before .before .pre, c .lowest-free .ensures)
 
 enum-told : tie.Need-enum-told
 enum-told c = search needs
 
 returns : tie.Need-returns
-returns c = message-left _ (start (c .before) .pre) _ _ _ (c .before .message-place .result) (c .before .message-place .ensures) (c .match .keys2)
+returns c = message-left _ (start (c .before) .pre) _ _ _ _ (c .before .message-answer .result) (c .before .message-answer .ensures) (c .match .keys2)
 
 mul-write-bytes : tie.Need-mul-write-bytes
 mul-write-bytes c = let low = cell-low (c .before) in omega arith
@@ -80,7 +80,7 @@ process-message-spec =
     tie.close
     (tie.spec
     lowest-free-requires
-    message-place-requires
+    message-answer-requires
     enum-told
     returns
     mul-write-bytes
