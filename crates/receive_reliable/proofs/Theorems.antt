@@ -6,7 +6,7 @@ use mathlib.Core.Bool.{Bool, true, false}
 use mathlib.Core.List.{List}
 use native.Mathlib.Omega.{arith}
 use borrow.Author.Tests.{ltb-true, lt-leb, le-ltb, ne-eqb, eq-eqb}
-use lib.ListN.{length, getD, set}
+use lib.ListN.{length, getD}
 use lib.Seq.{set-getD}
 use Rattle.words.specs.Sizes.{SLICE_SIZE, SLOTS, LANES, LIMIT}
 use Rattle.words.specs.Choice.{pick}
@@ -17,11 +17,10 @@ use Rattle.channel.specs.declared.Settings.{Settings}
 use Rattle.channel.specs.declared.Setup.{Setup}
 use Rattle.channel.proofs.Unique.{one-setup}
 use Rattle.channel.proofs.Held.{Here}
-use Rattle.slice_constructor.specs.declared.SliceConstructor.{SliceConstructor}
 use Rattle.slice_constructor.specs.Collect as c
 use Rattle.slice_constructor.proofs.Part.{repeat-good, repeat-bad, repeat-same}
 use Rattle.words.proofs.Tables.{by-test, clash, total-below}
-use Rattle.receive_reliable.specs.Receive.{laneOf, inCell, inLane, isHeld, ignores, Outcome, taken, ignored, refused, arrivalOf, MessageSpot, cell, nowhere, messageSpot, messageAnswer, messageState, messageBytes, SliceSpot, opened, fresh, nothing, entryRefusal, countRefusal, constructorAt, placed, openSpot, sliceSpot, withLane, sliceAnswer, sliceState, sliceBytes, Waiting, message, none-waiting, refusing, waiting, lookOf, lookAt, partAt, afterTake, MadeGives, MessageGives, SliceGives, TakeGives, Valid}
+use Rattle.receive_reliable.specs.Receive.{laneOf, inCell, isHeld, ignores, Outcome, taken, ignored, refused, arrivalOf, MessageSpot, cell, nowhere, messageSpot, messageAnswer, messageState, messageBytes, SliceSpot, opened, fresh, nothing, entryRefusal, countRefusal, constructorAt, placed, openSpot, sliceSpot, withLane, sliceAnswer, sliceState, sliceBytes, Waiting, message, none-waiting, refusing, waiting, lookOf, lookAt, partAt, afterTake, MadeGives, MessageGives, SliceGives, TakeGives, Valid}
 use Rattle.receive_reliable.specs.Repeats.{Repeats}
 use Rattle.receive_reliable.specs.Usage.{cellUse, laneUse}
 use Rattle.receive_reliable.specs.declared.ReceiveChannelReliable.{ReceiveChannelReliable}

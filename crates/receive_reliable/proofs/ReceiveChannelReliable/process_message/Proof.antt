@@ -1,6 +1,6 @@
 -- `ReceiveChannelReliable::process_message` meets its contract: the cell has room for the message. Assumes nothing.
 use Prim.Native.Nat.{_<_}
-use mathlib.Core.Path.{_≡_, refl, sym}
+use mathlib.Core.Path.{_≡_, refl}
 use native.Mathlib.Omega.{arith}
 use lib.ListN.{length}
 use Rattle.words.specs.Sizes.{SLOTS}

@@ -1,6 +1,6 @@
 -- `ReceiveChannelReliable::process_slice` meets its contract: its lane's constructor is given the piece. Assumes nothing.
 use Prim.Native.Nat.{_<_}
-use mathlib.Core.Path.{_≡_, refl, sym}
+use mathlib.Core.Path.{refl}
 use native.Mathlib.Omega.{arith}
 use Rattle.words.specs.Sizes.{LANES}
 use Rattle.words.proofs.Tables.{part-size}
