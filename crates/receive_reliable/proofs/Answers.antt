@@ -15,9 +15,12 @@ use Rattle.words.specs.Choice.{pick}
 use Rattle.words.specs.Lists.{lowestFree}
 use Rattle.channel.specs.Settings.{storesHold}
 use Rattle.receive_reliable.specs.Receive.{laneOf, inLane, isHeld, ignores, Outcome, taken, ignored, refused, arrivalOf, judged, entryRefusal, messageRefusal, MessageSpot, cell, nowhere, messageSpot, SliceSpot, opened, fresh, nothing, countRefusal, freshRefusal, constructorAt, Waiting, message, lookOf, partAt}
-use Rattle.receive_reliable.specs.Steps.{entryOf, told, messageTo, slicePlaceOf, noLane, openLane, freshLane, laneSpot}
+use Rattle.receive_reliable.specs.Steps.{entryOf, told, messageTo, laneFor, sliceTo, openLane, freshLane, laneSpot}
 use Rattle.receive_reliable.specs.declared.ReceiveChannelReliable.{ReceiveChannelReliable}
 use Rattle.receive_reliable.specs.declared.Store.the-variants.{Small, Lanes}
+use Rattle.receive_reliable.specs.declared.Held.{Held}
+use Rattle.receive_reliable.specs.declared.Held.the-variants as held
+use Rattle.receive_reliable.proofs.Held as Held′
 use Rattle.receive_reliable.specs.declared.Arrival.{Arrival}
 use Rattle.receive_reliable.proofs.Arrival.{the-type}
 use Rattle.receive_reliable.specs.declared.Look.{Look}
@@ -122,8 +125,8 @@ module _ (s : ReceiveChannelReliable) (id num small lane : ℕ) where
   unfolding sliceOn entryOf laneSpot
   slice-goes = gone nothing sliceOn (eqb (entryRefusal s id small lane) 0) (ignores s id) (entryRefusal s id small lane)
 
-  pub slice-stops : (a : Arrival) → arrivalOf a ≡ entryOf s id small lane → OneOf (1 ∷ 2 ∷ []) (tagOf the-type a) → slicePlaceOf (noLane a) ≡ laneSpot s id num small lane
-  slice-stops a e k = stops nothing (opened 0) sliceOn a k ∙ ap (told nothing sliceOn) e ∙ slice-goes
+  pub slice-stops : (x : SliceSpot) (a : Arrival) → arrivalOf a ≡ entryOf s id small lane → OneOf (1 ∷ 2 ∷ []) (tagOf the-type a) → sliceTo x a ≡ laneSpot s id num small lane
+  slice-stops x a e k = stops nothing x sliceOn a k ∙ ap (told nothing sliceOn) e ∙ slice-goes
 
   module _ (go : taken ≡ entryOf s id small lane) where
     slice-on : sliceOn ≡ laneSpot s id num small lane
@@ -146,6 +149,12 @@ module _ (s : ReceiveChannelReliable) (id num small lane : ℕ) where
         pub is-fresh : inLane s id ≡ false → x ≡ freshLane s num → x ≡ laneSpot s id num small lane
         unfolding sliceOn countRefusal
         is-fresh t e = e ∙ rw (ne-eqb _ _ some, le-ltb _ _ most, t) at slice-on
+
+-- a message that has no open lane goes to the free one
+pub not-open : (h : Held) (i : ℕ) → OneOf (0 ∷ 2 ∷ []) (tagOf Held′.the-type h) → laneFor h i ≡ fresh i
+not-open (held.At store j) i k = refl
+not-open (held.Open l n) i k = ⊎-elim (λ z. absurd (omega arith)) (λ z. absurd (omega arith)) k
+not-open held.Nothing i k = refl
 
 -- a lane that is free
 

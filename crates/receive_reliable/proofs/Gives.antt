@@ -28,7 +28,7 @@ use Rattle.slice_constructor.proofs.Collect as Collect′
 use Rattle.slice_constructor.proofs.Valid as cv
 use Rattle.slice_constructor.proofs.Part.{charge-most, piece-refused, piece-good, taken-now, store-back}
 use Rattle.receive_reliable.specs.Receive.{newOf, MadeGives, Outcome, refused, arrivalOf, MessageSpot, cell, nowhere, messageSpot, withMessage, MessageGives, SliceSpot, opened, fresh, nothing, constructorAt, placed, sliceSpot, withLane, SliceGives, lookOf, withoutCell, withoutLane, TakeGives, Valid}
-use Rattle.receive_reliable.specs.Steps.{heldIn, shownAt, told, messageTo, slicePlaceOf, laneSpot, Fits, pieceRefusal}
+use Rattle.receive_reliable.specs.Steps.{heldIn, shownAt, told, messageTo, slicePlaceOf, sliceTo, laneSpot, Fits, pieceRefusal}
 use Rattle.receive_reliable.specs.declared.ReceiveChannelReliable.{ReceiveChannelReliable}
 use Rattle.receive_reliable.specs.declared.Arrival.{Arrival}
 use Rattle.receive_reliable.specs.declared.Arrival.the-variants as arrival
@@ -79,8 +79,8 @@ not-taken f x (arrival.Refused e) k = refl
 pub cell-told : (i : ℕ) (a : Arrival) (spot : MessageSpot) → messageTo i a ≡ spot → a ≡ arrival.Taken → spot ≡ cell i
 cell-told i a spot e h = sym e ∙ ap (messageTo i) h
 
-pub lane-told : (p : SlicePlace) (spot : SliceSpot) → slicePlaceOf p ≡ spot → p .answer ≡ arrival.Taken → spot ≡ pick (p .fresh) (fresh (p .lane)) (opened (p .lane))
-lane-told p spot e h = sym e ∙ ap (λ (a : Arrival). told nothing (pick (p .fresh) (fresh (p .lane)) (opened (p .lane))) (arrivalOf a)) h
+pub lane-told : (p : SlicePlace) (lane spot : SliceSpot) (a : Arrival) → slicePlaceOf p ≡ lane → sliceTo lane a ≡ spot → a ≡ arrival.Taken → spot ≡ slicePlaceOf p
+lane-told p lane spot a e o h = sym o ∙ ap (sliceTo lane) h ∙ sym e
 
 -- ---- a small message
 
@@ -118,11 +118,11 @@ fits-taken s l id k f i n e =
     }
 
 module _ (s : ReceiveChannelReliable) (v : Valid s) (id num i : ℕ) (bs small lane : List ℕ) where
-  pub slice-left : (p : SlicePlace) → slicePlaceOf p ≡ laneSpot s id num (length small) (length lane)
-      → OneOf (1 ∷ 2 ∷ []) (tagOf Arrival′.the-type (p .answer)) → SliceGives s id num i bs small lane lane (record { answer = p .answer; state = s })
-  slice-left p h k =
-      let left = sym h ∙ not-taken nothing (pick (p .fresh) (fresh (p .lane)) (opened (p .lane))) (p .answer) k in
-      let e = spot-nothing s id num i (length bs) (length small) (length lane) (arrivalOf (p .answer)) left in
+  pub slice-left : (x : SliceSpot) (a : Arrival) → sliceTo x a ≡ laneSpot s id num (length small) (length lane)
+      → OneOf (1 ∷ 2 ∷ []) (tagOf Arrival′.the-type a) → SliceGives s id num i bs small lane lane (record { answer = a; state = s })
+  slice-left x a h k =
+      let left = sym h ∙ not-taken nothing x a k in
+      let e = spot-nothing s id num i (length bs) (length small) (length lane) (arrivalOf a) left in
       record { answer = rw e; state = rw e; bytes = rw e; valid = v }
 
   -- lane l, which is fresh or not, and the constructor that the piece goes to

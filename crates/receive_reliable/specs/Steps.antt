@@ -48,12 +48,18 @@ told f a (refused e) = f (refused e)
 abbrev pub messageTo : ℕ → Arrival → MessageSpot
 messageTo i a = told nowhere (cell i) (arrivalOf a)
 
-abbrev pub slicePlaceOf : SlicePlace → SliceSpot
-slicePlaceOf p = told nothing (pick (p .fresh) (fresh (p .lane)) (opened (p .lane))) (arrivalOf (p .answer))
+-- the lane for a piece: its message's where that is open, else lane i, which is free
+abbrev pub laneFor : Held → ℕ → SliceSpot
+laneFor (held.Open l n) i = opened l
+laneFor (held.At store j) i = fresh i
+laneFor held.Nothing i = fresh i
 
--- no place
-abbrev pub noLane : Arrival → SlicePlace
-noLane a = record { answer = a; lane = 0; fresh = false }
+abbrev pub slicePlaceOf : SlicePlace → SliceSpot
+slicePlaceOf p = pick (p .fresh) (fresh (p .lane)) (opened (p .lane))
+
+-- where a piece goes that is told so, with this lane for it
+abbrev pub sliceTo : SliceSpot → Arrival → SliceSpot
+sliceTo lane a = told nothing lane (arrivalOf a)
 
 -- the lane for a piece, before its index and size are judged
 unfoldable pub openLane : ReceiveChannelReliable → ℕ → ℕ → SliceSpot

@@ -5,8 +5,8 @@ ghost use Prim.Native.Nat.{_≤_};
 ghost use lib.ListN.{length};
 ghost use Rattle.words.specs.Lists.{lowestFree};
 ghost use Rattle.channel.specs.Find.{heldAt};
-ghost use Rattle.receive_reliable.specs.Receive.{Valid, newOf, MadeGives, arrivalOf, MessageGives, messageSpot, SliceGives, lookAt, lookOf, partAt, TakeGives};
-ghost use Rattle.receive_reliable.specs.Steps.{heldBy, heldIn, entryOf, messageTo, slicePlaceOf, noLane, freshLane, laneSpot};
+ghost use Rattle.receive_reliable.specs.Receive.{Valid, newOf, MadeGives, arrivalOf, MessageGives, messageSpot, fresh, SliceGives, lookAt, lookOf, partAt, TakeGives};
+ghost use Rattle.receive_reliable.specs.Steps.{heldBy, heldIn, entryOf, messageTo, slicePlaceOf, laneFor, sliceTo, freshLane, laneSpot};
 use channel::Settings;
 use channel::Setup;
 use slice_constructor::Collect;
@@ -78,9 +78,8 @@ enum Held {
     Nothing,
 }
 
-// What a piece is told, and the lane that it goes to where it is taken; whether that one is new.
+// The lane that a piece goes to; whether that one is new.
 struct SlicePlace {
-    answer: Arrival,
     lane: usize,
     fresh: bool,
 }
@@ -162,14 +161,14 @@ impl ReceiveChannelReliable {
             id,
         );
         let free = words::lowest_free(&self.lanes, self.settings.lanes);
-        let place = self.slice_place(held, free, id, num_slices, small.len(), lanes.len());
-        let answer = place.answer;
+        let answer = self.slice_answer(held, free, id, num_slices, small.len(), lanes.len());
         let Arrival::Taken = answer else {
             return Arrived {
                 answer,
                 state: self,
             };
         };
+        let place = lane_for(held, free);
         let l = place.lane;
         let stored = self.constructors[l];
         let constructor = stored.start(place.fresh, message_id, num_slices as usize);
@@ -382,8 +381,8 @@ impl ReceiveChannelReliable {
         Arrival::Taken
     }
 
-    // The lane for a piece of a message with so many pieces, where `free` is the lowest free one.
-    fn slice_place(
+    // What a piece of a message with so many pieces is told, where `free` is the lowest free lane.
+    fn slice_answer(
         self,
         held: Held,
         free: usize,
@@ -391,64 +390,61 @@ impl ReceiveChannelReliable {
         num_slices: u64,
         small: usize,
         lane: usize,
-    ) -> SlicePlace
+    ) -> Arrival
         requires { ⌜ Valid self × (held ≡ heldIn self id) × (free ≡ lowestFree (self .lanes) (self .settings .lanes)) ⌝ }
-        ensures { λ r. ⌜ slicePlaceOf r ≡ laneSpot self id «num_slices» small lane ⌝ }
+        ensures { λ r. ⌜ sliceTo (laneFor held free) r ≡ laneSpot self id «num_slices» small lane ⌝ }
     {
         let entry = self.entry(held, id, small, lane);
         let Arrival::Taken = entry else {
-            return no_lane(entry);
+            return entry;
         };
         if num_slices == 0 {
-            return no_lane(Arrival::Refused(Refusal::InvalidSliceMessage));
+            return Arrival::Refused(Refusal::InvalidSliceMessage);
         }
         if (self.settings.pieces as u64) < num_slices {
-            return no_lane(Arrival::Refused(Refusal::TooLong));
+            return Arrival::Refused(Refusal::TooLong);
         }
         let num = num_slices as usize;
-        if let Held::Open(l, charge) = held {
+        if let Held::Open(_, charge) = held {
             // an open lane's charge tells how many pieces its message has
             if charge == SLICE_SIZE * num {
-                return SlicePlace {
-                    answer: Arrival::Taken,
-                    lane: l,
-                    fresh: false,
-                };
+                return Arrival::Taken;
             }
-            return no_lane(Arrival::Refused(Refusal::InvalidSliceMessage));
+            return Arrival::Refused(Refusal::InvalidSliceMessage);
         }
         self.fresh(free, num)
     }
 
-    // The lowest free lane, for a message with so many pieces.
-    fn fresh(self, free: usize, num_slices: usize) -> SlicePlace
+    // What a message with so many pieces is told that would open the lane `free`.
+    fn fresh(self, free: usize, num_slices: usize) -> Arrival
         requires { ⌜ Valid self × (free ≡ lowestFree (self .lanes) (self .settings .lanes)) × («num_slices» ≤ self .settings .pieces) ⌝ }
-        ensures { λ r. ⌜ slicePlaceOf r ≡ freshLane self «num_slices» ⌝ }
+        ensures { λ r. ⌜ sliceTo (fresh free) r ≡ freshLane self «num_slices» ⌝ }
     {
         if self.settings.max_memory_usage_bytes
             < self.memory_usage_bytes + SLICE_SIZE * num_slices
         {
-            return no_lane(Arrival::Refused(Refusal::ReliableChannelMaxMemoryReached));
+            return Arrival::Refused(Refusal::ReliableChannelMaxMemoryReached);
         }
         if self.settings.lanes <= free {
-            return no_lane(Arrival::Refused(Refusal::TableFull));
+            return Arrival::Refused(Refusal::TableFull);
         }
-        SlicePlace {
-            answer: Arrival::Taken,
-            lane: free,
-            fresh: true,
-        }
+        Arrival::Taken
     }
 }
 
-// What a piece is told that goes nowhere.
-fn no_lane(answer: Arrival) -> SlicePlace
-    ensures { λ r. ⌜ r ≡ noLane answer ⌝ }
+// The lane for a piece: its message's where that is open, else the free one.
+fn lane_for(held: Held, free: usize) -> SlicePlace
+    ensures { λ r. ⌜ slicePlaceOf r ≡ laneFor held free ⌝ }
 {
+    if let Held::Open(l, _) = held {
+        return SlicePlace {
+            lane: l,
+            fresh: false,
+        };
+    }
     SlicePlace {
-        answer,
-        lane: 0,
-        fresh: false,
+        lane: free,
+        fresh: true,
     }
 }
 

@@ -29,7 +29,7 @@ use Rattle.slice_constructor.proofs.Collect as Collect′
 use Rattle.slice_constructor.proofs.Valid as cv
 use Rattle.slice_constructor.proofs.Part.{piece-refused, piece-good, taken-now, store-back}
 use Rattle.receive_unreliable.specs.Receive.{newOf, MadeGives, constructorAt, Place, at-cell, at-lane, no-place, nextPlace, Outcome, refused, arrivalOf, MessageSpot, cell, nowhere, messageSpot, withMessage, MessageGives, SliceSpot, opened, fresh, nothing, laneSpot, pieceRefusal, sliceSpot, judged, withPiece, SliceGives, walkState, walkCount, atTime, discardAnswer, discardState, DiscardGives, Waiting, message, refusing, shownAt, lookOf, lookAt, partAt, withoutCell, withoutLane, TakeGives, Valid}
-use Rattle.receive_unreliable.specs.Steps.{heldOf, told, messageTo, slicePlaceOf, Fits}
+use Rattle.receive_unreliable.specs.Steps.{heldOf, told, messageTo, slicePlaceOf, sliceTo, Fits}
 use Rattle.receive_unreliable.specs.declared.ReceiveChannelUnreliable.{ReceiveChannelUnreliable}
 use Rattle.receive_unreliable.specs.declared.Arrival.{Arrival}
 use Rattle.receive_unreliable.specs.declared.Arrival.the-variants as arrival
@@ -61,8 +61,8 @@ not-taken f x (arrival.Refused e) k = refl
 pub cell-told : (i : ℕ) (a : Arrival) (spot : MessageSpot) → messageTo i a ≡ spot → a ≡ arrival.Taken → spot ≡ cell i
 cell-told i a spot e h = sym e ∙ ap (messageTo i) h
 
-pub lane-told : (p : SlicePlace) (spot : SliceSpot) → slicePlaceOf p ≡ spot → p .answer ≡ arrival.Taken → spot ≡ pick (p .fresh) (fresh (p .lane)) (opened (p .lane))
-lane-told p spot e h = sym e ∙ ap (λ (a : Arrival). told nothing (pick (p .fresh) (fresh (p .lane)) (opened (p .lane))) (arrivalOf a)) h
+pub lane-told : (p : SlicePlace) (lane spot : SliceSpot) (a : Arrival) → slicePlaceOf p ≡ lane → sliceTo lane a ≡ spot → a ≡ arrival.Taken → spot ≡ slicePlaceOf p
+lane-told p lane spot a e o h = sym o ∙ ap (sliceTo lane) h ∙ sym e
 
 -- ---- a small message
 
@@ -100,11 +100,11 @@ fits-taken s l k t f i n e =
     }
 
 module _ (s : ReceiveChannelUnreliable) (v : Valid s) (id num i : ℕ) (bs : List ℕ) (t : ℕ) (small lane : List ℕ) where
-  pub slice-left : (p : SlicePlace) → slicePlaceOf p ≡ laneSpot s id num t (length small) (length lane)
-      → OneOf (1 ∷ 2 ∷ []) (tagOf Arrival′.the-type (p .answer)) → SliceGives s id num i bs t small lane lane (record { answer = p .answer; state = s })
+  pub slice-left : (x : SliceSpot) (a : Arrival) → sliceTo x a ≡ laneSpot s id num t (length small) (length lane)
+      → OneOf (1 ∷ 2 ∷ []) (tagOf Arrival′.the-type a) → SliceGives s id num i bs t small lane lane (record { answer = a; state = s })
   unfolding sliceSpot
-  slice-left p h k =
-      let e = sym h ∙ not-taken nothing (pick (p .fresh) (fresh (p .lane)) (opened (p .lane))) (p .answer) k in
+  slice-left x a h k =
+      let e = sym h ∙ not-taken nothing x a k in
       record { answer = rw e; state = rw e; bytes = rw e; valid = v }
 
   -- lane l, which is fresh or not, and the constructor that the piece goes to

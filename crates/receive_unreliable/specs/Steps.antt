@@ -42,12 +42,17 @@ told f a (refused e) = f (refused e)
 abbrev pub messageTo : ℕ → Arrival → MessageSpot
 messageTo i a = told nowhere (cell i) (arrivalOf a)
 
-abbrev pub slicePlaceOf : SlicePlace → SliceSpot
-slicePlaceOf p = told nothing (pick (p .fresh) (fresh (p .lane)) (opened (p .lane))) (arrivalOf (p .answer))
+-- the lane for a piece: its message's where that is open, else lane i, which is free
+abbrev pub laneFor : Opened → ℕ → SliceSpot
+laneFor (opened-at.At l n) i = opened l
+laneFor opened-at.Nothing i = fresh i
 
--- no place
-abbrev pub noLane : Arrival → SlicePlace
-noLane a = record { answer = a; lane = 0; fresh = false }
+abbrev pub slicePlaceOf : SlicePlace → SliceSpot
+slicePlaceOf p = pick (p .fresh) (fresh (p .lane)) (opened (p .lane))
+
+-- where a piece goes that is told so, with this lane for it
+abbrev pub sliceTo : SliceSpot → Arrival → SliceSpot
+sliceTo lane a = told nothing lane (arrivalOf a)
 
 -- k may go on in lane l at time t: the lane is open already, or free
 pub record Fits (s : ReceiveChannelUnreliable) (l : ℕ) (k : SliceConstructor) (t : ℕ) : Type 0 where

@@ -3,14 +3,12 @@
 // became whole.
 ghost use mathlib.Core.Path.{_≡_};
 ghost use mathlib.Core.List.{[], _∷_, _++_};
-ghost use Prim.Native.Nat.{ℕ, _*_, _≤_, _<_};
-ghost use lib.Dec.{eqb};
+ghost use Prim.Native.Nat.{ℕ, _≤_, _<_};
 ghost use lib.ListN.{length, getD, drop};
-ghost use Rattle.words.specs.Sizes.{SLICE_SIZE, LANES, PIECES, LIMIT};
-ghost use Rattle.words.specs.Choice.{pick};
+ghost use Rattle.words.specs.Sizes.{LANES, LIMIT};
 ghost use Rattle.words.specs.Lists.{lowestFree};
-ghost use Rattle.receive_unreliable.specs.Receive.{ROWS, Valid, newOf, nextPlace, MadeGives, refused, messageSpot, MessageGives, opened, nothing, freshLane, laneSpot, withPiece, SliceGives, lowestId, DiscardGives, lookAt, lookOf, partAt, TakeGives};
-ghost use Rattle.receive_unreliable.specs.Steps.{heldOf, openedBy, openedIn, messageTo, slicePlaceOf, noLane, Fits};
+ghost use Rattle.receive_unreliable.specs.Receive.{ROWS, Valid, newOf, nextPlace, MadeGives, messageSpot, MessageGives, fresh, freshLane, laneSpot, withPiece, SliceGives, lowestId, DiscardGives, lookAt, lookOf, partAt, TakeGives};
+ghost use Rattle.receive_unreliable.specs.Steps.{heldOf, openedBy, openedIn, messageTo, slicePlaceOf, laneFor, sliceTo, Fits};
 use channel::Settings;
 use channel::Setup;
 use slice_constructor::Collect;
@@ -109,9 +107,8 @@ enum Opened {
     Nothing,
 }
 
-// What a piece is told, and the lane that it goes to where it is taken; whether that one is new.
+// The lane that a piece goes to; whether that one is new.
 struct SlicePlace {
-    answer: Arrival,
     lane: usize,
     fresh: bool,
 }
@@ -174,7 +171,7 @@ impl ReceiveChannelUnreliable {
         let id = message_id.0;
         let opened = locate(&self.opens, &self.lane_ids, &self.lane_lens, id);
         let free = words::lowest_free(&self.lanes, self.settings.lanes);
-        let place = self.slice_place(
+        let answer = self.slice_answer(
             opened,
             free,
             id,
@@ -183,13 +180,13 @@ impl ReceiveChannelUnreliable {
             small.len(),
             lanes.len(),
         );
-        let answer = place.answer;
         let Arrival::Taken = answer else {
             return Arrived {
                 answer,
                 state: self,
             };
         };
+        let place = lane_for(opened, free);
         let l = place.lane;
         let stored = self.constructors[l];
         let constructor = stored.start(place.fresh, message_id, num_slices as usize);
@@ -401,8 +398,8 @@ impl ReceiveChannelUnreliable {
         Arrival::Refused(Refusal::BadStore)
     }
 
-    // The lane for a piece of a message with so many pieces, where `free` is the lowest free one.
-    fn slice_place(
+    // What a piece of a message with so many pieces is told, where `free` is the lowest free lane.
+    fn slice_answer(
         self,
         opened: Opened,
         free: usize,
@@ -411,51 +408,51 @@ impl ReceiveChannelUnreliable {
         current_time: u64,
         small: usize,
         lane: usize,
-    ) -> SlicePlace
+    ) -> Arrival
         requires { ⌜ Valid self × (opened ≡ openedIn self id) × (free ≡ lowestFree (self .lanes) (self .settings .lanes)) ⌝ }
-        ensures { λ r. ⌜ slicePlaceOf r ≡ laneSpot self id «num_slices» «current_time» small lane ⌝ }
+        ensures { λ r. ⌜ sliceTo (laneFor opened free) r ≡ laneSpot self id «num_slices» «current_time» small lane ⌝ }
     {
         let settings = self.settings;
         if settings.stores_hold(small, lane) {
             if LIMIT <= id {
-                return no_lane(Arrival::Refused(Refusal::BadNumber));
+                return Arrival::Refused(Refusal::BadNumber);
             }
             if current_time < self.latest {
-                return no_lane(Arrival::Refused(Refusal::ClockBack));
+                return Arrival::Refused(Refusal::ClockBack);
             }
             if num_slices == 0 {
-                return no_lane(Arrival::Refused(Refusal::InvalidSliceMessage));
+                return Arrival::Refused(Refusal::InvalidSliceMessage);
             }
             if (settings.pieces as u64) < num_slices {
-                return no_lane(Arrival::Refused(Refusal::TooLong));
+                return Arrival::Refused(Refusal::TooLong);
             }
             let num = num_slices as usize;
-            if let Opened::At(l, charge) = opened {
-                return again(l, charge, num);
+            if let Opened::At(_, charge) = opened {
+                // an open lane's charge tells how many pieces its message has
+                if charge == SLICE_SIZE * num {
+                    return Arrival::Taken;
+                }
+                return Arrival::Refused(Refusal::InvalidSliceMessage);
             }
             return self.fresh(free, num);
         }
-        no_lane(Arrival::Refused(Refusal::BadStore))
+        Arrival::Refused(Refusal::BadStore)
     }
 
-    // The lowest free lane, for a message with so many pieces.
-    fn fresh(self, free: usize, num_slices: usize) -> SlicePlace
+    // What a message with so many pieces is told that would open the lane `free`.
+    fn fresh(self, free: usize, num_slices: usize) -> Arrival
         requires { ⌜ Valid self × (free ≡ lowestFree (self .lanes) (self .settings .lanes)) × («num_slices» ≤ self .settings .pieces) ⌝ }
-        ensures { λ r. ⌜ slicePlaceOf r ≡ freshLane self «num_slices» ⌝ }
+        ensures { λ r. ⌜ sliceTo (fresh free) r ≡ freshLane self «num_slices» ⌝ }
     {
         if self.settings.max_memory_usage_bytes
             < self.memory_usage_bytes + SLICE_SIZE * num_slices
         {
-            return no_lane(Arrival::Dropped);
+            return Arrival::Dropped;
         }
         if self.settings.lanes <= free {
-            return no_lane(Arrival::Refused(Refusal::TableFull));
+            return Arrival::Refused(Refusal::TableFull);
         }
-        SlicePlace {
-            answer: Arrival::Taken,
-            lane: free,
-            fresh: true,
-        }
+        Arrival::Taken
     }
 
     // With lane l after a piece, by its constructor: open, or whole and the last of the queue. A repeat
@@ -494,30 +491,20 @@ impl ReceiveChannelUnreliable {
     }
 }
 
-// What a piece is told that goes nowhere.
-fn no_lane(answer: Arrival) -> SlicePlace
-    ensures { λ r. ⌜ r ≡ noLane answer ⌝ }
+// The lane for a piece: its message's where that is open, else the free one.
+fn lane_for(opened: Opened, free: usize) -> SlicePlace
+    ensures { λ r. ⌜ slicePlaceOf r ≡ laneFor opened free ⌝ }
 {
-    SlicePlace {
-        answer,
-        lane: 0,
-        fresh: false,
-    }
-}
-
-// Lane l, which is open, for a message with so many pieces; its charge tells how many it has.
-fn again(l: usize, charge: usize, num_slices: usize) -> SlicePlace
-    requires { ⌜ «num_slices» ≤ PIECES ⌝ }
-    ensures { λ r. ⌜ slicePlaceOf r ≡ pick (eqb charge (SLICE_SIZE * «num_slices»)) (opened l) (nothing (refused 8)) ⌝ }
-{
-    if charge == SLICE_SIZE * num_slices {
+    if let Opened::At(l, _) = opened {
         return SlicePlace {
-            answer: Arrival::Taken,
             lane: l,
             fresh: false,
         };
     }
-    no_lane(Arrival::Refused(Refusal::InvalidSliceMessage))
+    SlicePlace {
+        lane: free,
+        fresh: true,
+    }
 }
 
 // Where the open message with an id is.

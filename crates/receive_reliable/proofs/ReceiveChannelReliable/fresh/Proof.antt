@@ -10,17 +10,11 @@ mul-if1 c = search needs
 add-if1 : tie.Need-add-if1
 add-if1 c = search needs
 
-no-lane-requires : tie.Need-no-lane-requires
-no-lane-requires c κs = search needs
-
 returns : tie.Need-returns
-returns c = rw (c .no-lane .ensures) (no-memory-left _ _ (c .before .if1 .taken))
-
-no-lane-requires-2 : tie.Need-no-lane-requires-2
-no-lane-requires-2 c κs = search needs
+returns c = no-memory-left _ _ (c .if1 .taken)
 
 returns-2 : tie.Need-returns-2
-returns-2 c = rw (c .no-lane2 .ensures) (no-lane-free _ _ (c .before .before .before .if1 .left) _ (c .before .before .before .before .before .before .pre .1) (c .before .if2 .taken))
+returns-2 c = no-lane-free _ _ (c .before .before .if1 .left) _ (c .before .before .before .before .before .pre .1) (c .if2 .taken)
 
 returns-3 : tie.Need-returns-3
 returns-3 c = lane-free _ _ (c .before .before .if1 .left) _ (c .before .before .before .before .before .pre .1) (c .if2 .left)
@@ -31,8 +25,6 @@ fresh-spec =
     (tie.spec
     mul-if1
     add-if1
-    no-lane-requires
     returns
-    no-lane-requires-2
     returns-2
     returns-3)

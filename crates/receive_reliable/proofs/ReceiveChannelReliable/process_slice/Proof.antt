@@ -12,19 +12,19 @@ use borrow.Author.Needs.{needs}
 use Rattle.receive_reliable.proofs.ReceiveChannelReliable.process_slice.Statement.{statement}
 use Rattle.receive_reliable.proofs.ReceiveChannelReliable.process_slice.Tie as tie
 
-abbrev start : tie.After-slice-place → tie.Start
+abbrev start : tie.After-slice-answer → tie.Start
 start c = c .before .before .before .before .before .before .before .before .before .before .before .before .before .before .before .before
 
 -- the lane that the piece goes to
-in-lane : (c : tie.After-enum-told) → (let a = start (c .before .before) .args in let p = c .before .before .slice-place .result in
+in-lane : (c : tie.After-lane-for) → (let a = start (c .before .before .before) .args in let p = c .lane-for .result in
     InLane (a .t1) (a .message-id .0) (a .num-slices) (a .slice-index .0) (a .payload .now) (a .small .now) (a .lanes .now) (p .lane) (p .fresh))
 in-lane c =
     record {
-      valid = start (c .before .before) .pre;
-      spot = lane-told (c .before .before .slice-place .result) _ (c .before .before .slice-place .ensures) (c .enum-told .given .1);
+      valid = start (c .before .before .before) .pre;
+      spot = lane-told (c .lane-for .result) _ _ (c .before .before .before .slice-answer .result) (c .lane-for .ensures) (c .before .before .before .slice-answer .ensures) (c .before .enum-told .given .1);
     }
 
-low : (c : tie.After-enum-told) → c .before .before .slice-place .result .lane < LANES
+low : (c : tie.After-lane-for) → c .lane-for .result .lane < LANES
 low c = lane-low (in-lane c)
 
 locate-requires : tie.Need-locate-requires
@@ -33,14 +33,17 @@ locate-requires c κs = search needs
 lowest-free-requires : tie.Need-lowest-free-requires
 lowest-free-requires c κs = search needs
 
-slice-place-requires : tie.Need-slice-place-requires
-slice-place-requires c κs = (c .before .before .before .before .before .before .before .before .before .before .before .before .before .before .before .pre, c .before .before .before .before .locate .ensures, c .lowest-free .ensures)
+slice-answer-requires : tie.Need-slice-answer-requires
+slice-answer-requires c κs = (c .before .before .before .before .before .before .before .before .before .before .before .before .before .before .before .pre, c .before .before .before .before .locate .ensures, c .lowest-free .ensures)
 
 enum-told : tie.Need-enum-told
 enum-told c = search needs
 
 returns : tie.Need-returns
-returns c = slice-left _ (start (c .before) .pre) _ _ _ _ _ _ (c .before .slice-place .result) (c .before .slice-place .ensures) (c .match .keys2)
+returns c = slice-left _ (start (c .before) .pre) _ _ _ _ _ _ _ (c .before .slice-answer .result) (c .before .slice-answer .ensures) (c .match .keys2)
+
+lane-for-requires : tie.Need-lane-for-requires
+lane-for-requires c κs = search needs
 
 mul-stored : tie.Need-mul-stored
 mul-stored c = let h = low c in omega arith
@@ -52,18 +55,18 @@ start-requires : tie.Need-start-requires
 start-requires c κs = let told = c .before in start-fits (in-lane told) _ _ refl .valid
 
 mul-size : tie.Need-mul-size
-mul-size c = omega (arith, start (c .before .before .before .before) .pre .settings .pieces-most)
+mul-size c = omega (arith, start (c .before .before .before .before .before) .pre .settings .pieces-most)
 
 mul-start : tie.Need-mul-start
 mul-start c =
     let told = c .before .before in
-    let v = start (told .before .before) .pre in
+    let v = start (told .before .before .before) .pre in
     omega (arith, lane-end _ (v .settings) _ (lane-inside (in-lane told)))
 
 add-end : tie.Need-add-end
 add-end c =
     let told = c .before .before in
-    let v = start (told .before .before) .pre in
+    let v = start (told .before .before .before) .pre in
     omega (arith, lane-end _ (v .settings) _ (lane-inside (in-lane told)))
 
 sub-process-slice : tie.Need-sub-process-slice
@@ -102,12 +105,12 @@ element-copy-out-charge : tie.Need-element-copy-out-charge
 element-copy-out-charge c = low (c .before .before .before .before .before .before .before .before)
 
 sub-self : tie.Need-sub-self
-sub-self c = let told = c .before .before .before .before .before .before .before .before .before in lane-used _ (start (told .before .before) .pre) _ (low told)
+sub-self c = let told = c .before .before .before .before .before .before .before .before .before in lane-used _ (start (told .before .before .before) .pre) _ (low told)
 
 add-self : tie.Need-add-self
 add-self c =
     let told = c .before .before .before .before .before .before .before .before .before .before in
-    let v = start (told .before .before) .pre in
+    let v = start (told .before .before .before) .pre in
     let f = charge-fits (in-lane told) _ _ (c .before .before .before .before .before .before .before .before .start .ensures) _ (part-size _ _) _ _ (c .before .before .before .before .before .before .process-slice .ensures) (c .before .before .before .match2 .keys2) in
     rw (c .before .before .keep .ensures) (omega (arith, f, v .settings .max-most))
 
@@ -150,9 +153,10 @@ process-slice-spec =
     (tie.spec
     locate-requires
     lowest-free-requires
-    slice-place-requires
+    slice-answer-requires
     enum-told
     returns
+    lane-for-requires
     mul-stored
     element-copy-out-stored
     start-requires

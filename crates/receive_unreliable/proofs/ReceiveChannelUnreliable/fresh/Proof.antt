@@ -11,19 +11,13 @@ mul-if1 c = search needs
 add-if1 : tie.Need-add-if1
 add-if1 c = search needs
 
-no-lane-requires : tie.Need-no-lane-requires
-no-lane-requires c κs = search needs
-
 returns : tie.Need-returns
 unfolding freshLane
-returns c = rw (c .no-lane .ensures, lt-ltb _ _ (c .before .if1 .taken))
-
-no-lane-requires-2 : tie.Need-no-lane-requires-2
-no-lane-requires-2 c κs = search needs
+returns c = rw (lt-ltb _ _ (c .if1 .taken))
 
 returns-2 : tie.Need-returns-2
 unfolding freshLane
-returns-2 c = rw (c .no-lane2 .ensures, le-ltb _ _ (c .before .before .before .if1 .left), ← c .before .before .before .before .before .before .pre .1, le-leb _ _ (c .before .if2 .taken))
+returns-2 c = rw (le-ltb _ _ (c .before .before .if1 .left), ← c .before .before .before .before .before .pre .1, le-leb _ _ (c .if2 .taken))
 
 returns-3 : tie.Need-returns-3
 unfolding freshLane
@@ -35,8 +29,6 @@ fresh-spec =
     (tie.spec
     mul-if1
     add-if1
-    no-lane-requires
     returns
-    no-lane-requires-2
     returns-2
     returns-3)
