@@ -1,1 +1,2 @@
 pub mod Lend
+pub mod Wire

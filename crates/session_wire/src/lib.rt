@@ -2,6 +2,12 @@
 ghost use mathlib.Core.Path.{_≡_};
 ghost use Rattle.script.specs.Ascii.{ascii};
 ghost use Rattle.arguments.specs.Arguments.{leaves, takenApart};
+ghost use lib.ListN.{length, getD};
+ghost use Rattle.octets.specs.Reader.{numOf};
+ghost use Rattle.octets.specs.Writer.{putOf, left};
+ghost use Rattle.octets.specs.Varint.{run, varLength};
+ghost use Rattle.page.specs.Page.{sheet};
+ghost use Rattle.session_wire.specs.Wire.{PutsBy, WritesBy, Decodes, OnOut, Answers, Called, digestSaid, valueSaid, partSaid, lengthSaid, getSaid, putAnswer, putLetters, smallBy, sliceBy, packetBy};
 ghost use Rattle.session_wire.specs.Lend.{allLent, lentBy, lentAfter};
 use answers::packets;
 use arguments::Read;
@@ -69,7 +75,9 @@ pub fn call(
     page: &mut [u8],
     at: usize,
 ) -> Told
-    ensures { λ r. ⌜ r .lent ≡ lentAfter k (now (numbers .entry)) e ⌝ }
+    ensures { λ r. ⌜ (r .lent ≡ lentAfter k (now (numbers .entry)) e)
+        × Called k e (now (numbers .entry)) (now (bytes .entry)) (now (messages .entry)) (now (ranges .entry)) (now (out .entry)) (sheet (now (page .entry)) at)
+        (now (messages .exit)) (now (ranges .exit)) (now (out .exit)) (sheet (now (page .exit)) (r .at)) ⌝ }
 {
     if k == 0 {
         let a = page::line(page, at, b"lent messages # ranges # out #\n", numbers);
@@ -105,18 +113,41 @@ fn answer(
     out: &mut [u8],
     page: &mut [u8],
     at: usize,
-) -> usize {
-    let n = page::part(e.out, out);
+) -> usize
+    ensures { λ r. ⌜ Answers k e (now (numbers .entry)) (now (bytes .entry)) (now (messages .entry)) (now (ranges .entry)) (now (out .entry)) (sheet (now (page .entry)) at) (now (messages .exit)) (now (ranges .exit)) (now (out .exit)) (sheet (now (page .exit)) r) ⌝ }
+{
     match k {
         1 => digest(messages, ranges, out, page, at),
         2 => decoded(e, bytes, messages, ranges, page, at),
-        3..=5 => put(k, numbers, bytes, &mut out[..n], page, at),
-        6..=10 => write(k, numbers, bytes, &mut out[..n], page, at),
-        _ => get(k, numbers, bytes, page, at),
+        _ => on_out(e.out, k, numbers, bytes, out, page, at),
     }
 }
 
-fn digest(messages: &[u64], ranges: &[u64], out: &[u8], page: &mut [u8], at: usize) -> usize {
+// The calls that touch no table.
+fn on_out(
+    lent: usize,
+    k: usize,
+    numbers: &[u64],
+    bytes: &[u8],
+    out: &mut [u8],
+    page: &mut [u8],
+    at: usize,
+) -> usize
+    ensures { λ r. ⌜ OnOut lent k (now (numbers .entry)) (now (bytes .entry)) (now (out .entry)) (sheet (now (page .entry)) at) (now (out .exit)) (sheet (now (page .exit)) r) ⌝ }
+{
+    if 10 < k {
+        return get(k, numbers, bytes, page, at);
+    }
+    let n = page::part(lent, out);
+    if 5 < k {
+        return write(k, numbers, bytes, &mut out[..n], page, at);
+    }
+    put(k, numbers, bytes, &mut out[..n], page, at)
+}
+
+fn digest(messages: &[u64], ranges: &[u64], out: &[u8], page: &mut [u8], at: usize) -> usize
+    ensures { λ r. ⌜ sheet (now (page .exit)) r ≡ digestSaid (now (messages .entry)) (now (ranges .entry)) (now (out .entry)) (sheet (now (page .entry)) at) ⌝ }
+{
     page::line(
         page,
         at,
@@ -136,21 +167,18 @@ fn decoded(
     ranges: &mut [u64],
     page: &mut [u8],
     at: usize,
-) -> usize {
+) -> usize
+    ensures { λ r. ⌜ Decodes e (now (bytes .entry)) (now (messages .entry)) (now (ranges .entry)) (sheet (now (page .entry)) at) (now (messages .exit)) (now (ranges .exit)) (sheet (now (page .exit)) r) ⌝ }
+{
     let m = page::words_part(e.messages, messages);
     let r = page::words_part(e.ranges, ranges);
     let d = packets::read(bytes, &mut messages[..m], &mut ranges[..r]);
     packets::decoded(page, at, d, messages, ranges)
 }
 
-fn put(
-    k: usize,
-    numbers: &[u64],
-    bytes: &[u8],
-    out: &mut [u8],
-    page: &mut [u8],
-    at: usize,
-) -> usize {
+fn put(k: usize, numbers: &[u64], bytes: &[u8], out: &mut [u8], page: &mut [u8], at: usize) -> usize
+    ensures { λ r. ⌜ PutsBy k (now (numbers .entry)) (now (bytes .entry)) (now (out .entry)) (sheet (now (page .entry)) at) (now (out .exit)) (sheet (now (page .exit)) r) ⌝ }
+{
     let place = page::size(numbers, 0);
     let r = put_at(k, out, place, page::word(numbers, 1), bytes);
     match r {
@@ -162,7 +190,9 @@ fn put(
     }
 }
 
-fn put_at(k: usize, out: &mut [u8], place: usize, v: u64, bytes: &[u8]) -> Put {
+fn put_at(k: usize, out: &mut [u8], place: usize, v: u64, bytes: &[u8]) -> Put
+    ensures { λ r. ⌜ (putOf r ≡ putAnswer k place v (now (bytes .entry)) (length (now (out .entry)))) × (now (out .exit) ≡ left (putOf r) place (putLetters k v (now (bytes .entry))) (now (out .entry))) ⌝ }
+{
     match k {
         3 => octets::put_u16(out, place, (v % 65_536) as u16),
         4 => octets::put_varint(out, place, v),
@@ -178,7 +208,9 @@ fn write(
     out: &mut [u8],
     page: &mut [u8],
     at: usize,
-) -> usize {
+) -> usize
+    ensures { λ r. ⌜ WritesBy k (now (numbers .entry)) (now (bytes .entry)) (now (out .entry)) (sheet (now (page .entry)) at) (now (out .exit)) (sheet (now (page .exit)) r) ⌝ }
+{
     let messages = page::words_from(numbers, 3);
     let ranges = page::words_from(numbers, 2);
     let held = ranges.len() / 2;
@@ -193,7 +225,9 @@ fn write(
 }
 
 // The packet that the numbers of a call say.
-fn named(k: usize, numbers: &[u64]) -> Packet {
+fn named(k: usize, numbers: &[u64]) -> Packet
+    ensures { λ r. ⌜ r ≡ packetBy k (now (numbers .entry)) ⌝ }
+{
     match k {
         6 => Packet::SmallReliable(small(numbers)),
         7 => Packet::SmallUnreliable(small(numbers)),
@@ -206,7 +240,9 @@ fn named(k: usize, numbers: &[u64]) -> Packet {
     }
 }
 
-fn small(numbers: &[u64]) -> Small {
+fn small(numbers: &[u64]) -> Small
+    ensures { λ r. ⌜ r ≡ smallBy (now (numbers .entry)) ⌝ }
+{
     Small {
         sequence: Sequence(page::word(numbers, 0)),
         channel_id: (page::word(numbers, 1) % 256) as u8,
@@ -214,7 +250,9 @@ fn small(numbers: &[u64]) -> Small {
     }
 }
 
-fn slice(numbers: &[u64]) -> Slice {
+fn slice(numbers: &[u64]) -> Slice
+    ensures { λ r. ⌜ r ≡ sliceBy (now (numbers .entry)) ⌝ }
+{
     Slice {
         sequence: Sequence(page::word(numbers, 0)),
         channel_id: (page::word(numbers, 1) % 256) as u8,
@@ -226,7 +264,9 @@ fn slice(numbers: &[u64]) -> Slice {
     }
 }
 
-fn get(k: usize, numbers: &[u64], bytes: &[u8], page: &mut [u8], at: usize) -> usize {
+fn get(k: usize, numbers: &[u64], bytes: &[u8], page: &mut [u8], at: usize) -> usize
+    ensures { λ r. ⌜ sheet (now (page .exit)) r ≡ getSaid k (now (numbers .entry)) (now (bytes .entry)) (sheet (now (page .entry)) at) ⌝ }
+{
     let place = page::size(numbers, 0);
     match k {
         11 => got(octets::get_u8(bytes, place), page, at),
@@ -237,14 +277,18 @@ fn get(k: usize, numbers: &[u64], bytes: &[u8], page: &mut [u8], at: usize) -> u
     }
 }
 
-fn got(g: Got, page: &mut [u8], at: usize) -> usize {
+fn got(g: Got, page: &mut [u8], at: usize) -> usize
+    ensures { λ r. ⌜ sheet (now (page .exit)) r ≡ valueSaid (numOf g) (sheet (now (page .entry)) at) ⌝ }
+{
     match g {
         Got::Short => page::refusal(page, at, Refusal::BufferTooShort),
         Got::Value(v, next) => page::line(page, at, b"value # next #", &[v, next as u64]),
     }
 }
 
-fn got_bytes(bytes: &[u8], place: usize, page: &mut [u8], at: usize) -> usize {
+fn got_bytes(bytes: &[u8], place: usize, page: &mut [u8], at: usize) -> usize
+    ensures { λ r. ⌜ sheet (now (page .exit)) r ≡ partSaid (now (bytes .entry)) (run (now (bytes .entry)) place) (sheet (now (page .entry)) at) ⌝ }
+{
     match octets::get_bytes_with_varint_length(bytes, place) {
         Run::Short => page::refusal(page, at, Refusal::BufferTooShort),
         Run::At(p, len) => {
@@ -254,7 +298,9 @@ fn got_bytes(bytes: &[u8], place: usize, page: &mut [u8], at: usize) -> usize {
     }
 }
 
-fn length(v: u64, page: &mut [u8], at: usize) -> usize {
+fn length(v: u64, page: &mut [u8], at: usize) -> usize
+    ensures { λ r. ⌜ sheet (now (page .exit)) r ≡ lengthSaid (varLength v) (sheet (now (page .entry)) at) ⌝ }
+{
     match octets::varint_len(v) {
         Put::Refused(why) => page::refusal(page, at, why),
         Put::To(n) => page::line(page, at, b"length #", &[n as u64]),
