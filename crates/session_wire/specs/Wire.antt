@@ -1,4 +1,4 @@
--- What a call on the wire says, and what it leaves in `out`. docs/SCRIPT.md, "Calls". Assumes nothing.
+-- What a call on the wire says, and what it leaves in lent memory. docs/SCRIPT.md, "Calls". Calls are numbered as `read` lists them. Assumes nothing.
 use Prim.Native.Nat.{ℕ, _/_, _%_, _≤_, _<_}
 use mathlib.Core.Path.{_≡_}
 use mathlib.Core.List.{List, [], _∷_, _++_}
@@ -124,7 +124,7 @@ abbrev pub WritesBy : ℕ → List ℕ → List ℕ → List ℕ → Sheet → L
 WritesBy k ns bs out sh out' sh' =
     Puts (encoded (packetBy k ns) (messagesBy ns) (rangesBy ns) bs (length out)) (bytesOf (packetBy k ns) (messagesBy ns) (rangesBy ns) bs) 0 writtenSaid out sh out' sh'
 
--- ---- the k-th call, behind `lend`: what it leaves in the tables and in `out`, and what is said
+-- ---- the k-th call: what it leaves in the tables and in `out`, and what is said
 
 -- those that touch no table; of `out` the front is lent, and what is behind it stays
 pub data OnOut (lent k : ℕ) (ns bs out : List ℕ) (sh : Sheet) (out' : List ℕ) (sh' : Sheet) : Type 0 where
@@ -132,13 +132,13 @@ pub data OnOut (lent k : ℕ) (ns bs out : List ℕ) (sh : Sheet) (out' : List �
   writes : 5 < k → k ≤ 10 → (front : List ℕ) → out' ≡ front ++ drop lent out → WritesBy k ns bs (take lent out) sh front sh' → OnOut lent k ns bs out sh out' sh'
   gets : 10 < k → out' ≡ out → sh' ≡ getSaid k ns bs sh → OnOut lent k ns bs out sh out' sh'
 
+-- all but `lend`
 pub data Answers (k : ℕ) (e : Lent) (ns bs ms rs out : List ℕ) (sh : Sheet) (ms' rs' out' : List ℕ) (sh' : Sheet) : Type 0 where
   digests : k ≡ 1 → ms' ≡ ms → rs' ≡ rs → out' ≡ out → sh' ≡ digestSaid ms rs out sh → Answers k e ns bs ms rs out sh ms' rs' out' sh'
   reads : k ≡ 2 → out' ≡ out → Decodes e bs ms rs sh ms' rs' sh' → Answers k e ns bs ms rs out sh ms' rs' out' sh'
   others : (k ≡ 1 → ⊥) → (k ≡ 2 → ⊥) → ms' ≡ ms → rs' ≡ rs → OnOut (e .out) k ns bs out sh out' sh' → Answers k e ns bs ms rs out sh ms' rs' out' sh'
 
--- ---- the k-th call
-
+-- a newline stands behind each answer
 pub data Called (k : ℕ) (e : Lent) (ns bs ms rs out : List ℕ) (sh : Sheet) (ms' rs' out' : List ℕ) (sh' : Sheet) : Type 0 where
   lends :
       k ≡ 0 → ms' ≡ ms → rs' ≡ rs → out' ≡ out → sh' ≡ lined (ascii "lent messages # ranges # out #\n") ns sh
