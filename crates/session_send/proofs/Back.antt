@@ -31,12 +31,11 @@ module _ (from n : ℕ) (xs ys : List ℕ) (p : Span) (g : SpanGives from n (len
 
   pub keeps : length ys ≡ length (midOf (p .start) (p .end - p .start) xs) → length back ≡ length xs → Keeps from n xs back
   unfolding Keeps
-  keeps l same =
-      (
-        sym (take-by from (p .start) back (g .starts ∙ ap (λ (k : ℕ). min from k) (sym same)) _ refl)
+  keeps l same = (
+    sym (take-by from (p .start) back (g .starts ∙ ap (λ (k : ℕ). min from k) (sym same)) _ refl)
         ∙ take-put (p .start) (p .end - p .start) xs ys (omega arith)
         ∙ take-by from (p .start) xs (g .starts) _ refl,
-        sym (drop-by (from + n) (p .end) back (g .ends ∙ ap (λ (k : ℕ). min (from + n) k) (sym same)) _ refl)
+    sym (drop-by (from + n) (p .end) back (g .ends ∙ ap (λ (k : ℕ). min (from + n) k) (sym same)) _ refl)
         ∙ drop-put (p .start) (p .end) xs ys (g .ordered) (g .inside) (l ∙ mid-len (p .start) (p .end) xs (g .inside))
-        ∙ drop-by (from + n) (p .end) xs (g .ends) _ refl
-      )
+        ∙ drop-by (from + n) (p .end) xs (g .ends) _ refl,
+  )

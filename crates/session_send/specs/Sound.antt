@@ -18,9 +18,6 @@ use Rattle.session_send.specs.declared.Senders.{Senders}
 abbrev pub whole : Lent
 whole = record { small = SMALL; lanes = LANES; out = OUT; table = TABLE; packets = 0 }
 
-abbrev pub nothing : Lent
-nothing = record { small = 0; lanes = 0; out = 0; table = 0; packets = 0 }
-
 -- what one of the senders is lent
 abbrev pub lentTo : Senders → Bool → Lent
 lentTo s reliable = pick reliable (s .«sr_lent») (s .«su_lent»)
@@ -32,23 +29,23 @@ DIGEST = 6
 abbrev pub seenBy : Senders → Bool → ℕ → Lent
 seenBy s reliable k = pick (eqb k DIGEST) whole (lentTo s reliable)
 
--- where a sender's memory begins: the unreliable one's lies behind the reliable one's
-abbrev pub beginning : Bool → Lent
-beginning reliable = pick reliable nothing whole
+-- where the own memory of a sender begins, of which each has n: the reliable one's comes first
+abbrev pub beginning : Bool → ℕ → ℕ
+beginning reliable n = pick reliable 0 n
 
 -- a sender is lent no more than its own part
 pub record Own (l : Lent) : Type 0 where
-  pub small : l .small ≤ whole .small
-  pub lanes : l .lanes ≤ whole .lanes
-  pub out : l .out ≤ whole .out
-  pub table : l .table ≤ whole .table
+  pub small : l .small ≤ SMALL
+  pub lanes : l .lanes ≤ LANES
+  pub out : l .out ≤ OUT
+  pub table : l .table ≤ TABLE
 
--- the parts of the memory of all ends, of these lengths: as much as is lent, from where it begins on
-pub record PartsGive (from l : Lent) (smalls all-lanes outs tables : ℕ) (p : Parts) : Type 0 where
-  pub small : SpanGives (from .small) (l .small) smalls (p .small)
-  pub lanes : SpanGives (from .lanes) (l .lanes) all-lanes (p .lanes)
-  pub out : SpanGives (from .out) (l .out) outs (p .out)
-  pub table : SpanGives (from .table) (l .table) tables (p .table)
+-- the parts of the memory of all ends, of these lengths, that a call on a sender sees
+pub record PartsGive (reliable : Bool) (l : Lent) (smalls all-lanes outs tables : ℕ) (p : Parts) : Type 0 where
+  pub small : SpanGives (beginning reliable SMALL) (l .small) smalls (p .small)
+  pub lanes : SpanGives (beginning reliable LANES) (l .lanes) all-lanes (p .lanes)
+  pub out : SpanGives (beginning reliable OUT) (l .out) outs (p .out)
+  pub table : SpanGives (beginning reliable TABLE) (l .table) tables (p .table)
 
 -- both are valid, and lent their own. Shut, so that a proof that hands the senders on does not look into them
 unfoldable pub Sound : Senders → Type 0
@@ -61,7 +58,7 @@ Keeps from n before after = (take from after ≡ take from before) × (drop (fro
 -- after a call the senders are sound, and no memory but what the call sees is changed
 pub record CallGives (reliable : Bool) (seen : Lent) (small small' lanes lanes' out out' table table' : List ℕ) (s : Senders) : Type 0 where
   pub sound : Sound s
-  pub in-small : Keeps (beginning reliable .small) (seen .small) small small'
-  pub in-lanes : Keeps (beginning reliable .lanes) (seen .lanes) lanes lanes'
-  pub in-out : Keeps (beginning reliable .out) (seen .out) out out'
-  pub in-table : Keeps (beginning reliable .table) (seen .table) table table'
+  pub in-small : Keeps (beginning reliable SMALL) (seen .small) small small'
+  pub in-lanes : Keeps (beginning reliable LANES) (seen .lanes) lanes lanes'
+  pub in-out : Keeps (beginning reliable OUT) (seen .out) out out'
+  pub in-table : Keeps (beginning reliable TABLE) (seen .table) table table'

@@ -1,6 +1,6 @@
 // Calls on the two senders. A call answers a value, and the page comes in where that is said.
 ghost use mathlib.Core.Path.{_≡_};
-ghost use Prim.Native.Nat.{min};
+ghost use Prim.Native.Nat.{_≤_};
 ghost use lib.ListN.{length};
 ghost use Rattle.arguments.specs.Arguments.{leaves, takenApart};
 ghost use Rattle.send_reliable.specs.Sender as srv;
@@ -57,7 +57,7 @@ enum Said {
     Unknown,
     Available(u64),
     Can(bool),
-    Lent(Lent),
+    Lent(u64, u64, u64, u64),
     Digest(u64, u64, u64, u64),
     Usage,
     Sent(Written),
@@ -100,13 +100,7 @@ fn all() -> Lent
 }
 
 // The calls, each at its number in `made` and `plain`; those of the reliable sender alone stand last.
-pub fn read(
-    reliable: bool,
-    line: &[u8],
-    from: usize,
-    numbers: &mut [u64],
-    bytes: &mut [u8],
-) -> Read
+pub fn read(reliable: bool, line: &[u8], from: usize, numbers: &mut [u64], bytes: &mut [u8]) -> Read
     ensures { λ r. ⌜ leaves r (now (numbers .exit)) (now (bytes .exit)) ≡ takenApart (callsOf reliable) (now (line .entry)) from (now (numbers .entry)) (now (bytes .entry)) ⌝ }
 {
     if reliable {
@@ -205,20 +199,14 @@ struct Parts {
     table: Span,
 }
 
-// Where a sender's own memory begins: the unreliable sender's lies behind the reliable one's.
-fn begins(reliable: bool) -> Lent
-    ensures { λ r. ⌜ r ≡ beginning reliable ⌝ }
+// Where the own memory of a sender begins, of which each has n: the reliable sender's comes first.
+fn begins(reliable: bool, n: usize) -> usize
+    ensures { λ r. ⌜ r ≡ beginning reliable n ⌝ }
 {
     if reliable {
-        return Lent {
-            small: 0,
-            lanes: 0,
-            out: 0,
-            table: 0,
-            packets: 0,
-        };
+        return 0;
     }
-    all()
+    n
 }
 
 // What a call sees of the memory of all ends.
@@ -231,20 +219,19 @@ fn parts_of(
     out: &[u8],
     table: &[u64],
 ) -> Parts
-    ensures { λ r. ⌜ PartsGive (beginning reliable) (seenBy s reliable k)
-                       (length (now (small .entry))) (length (now (lanes .entry))) (length (now (out .entry))) (length (now (table .entry))) r ⌝ }
+    ensures { λ r. ⌜ PartsGive reliable (seenBy s reliable k)
+        (length (now (small .entry))) (length (now (lanes .entry))) (length (now (out .entry))) (length (now (table .entry))) r ⌝ }
 {
-    let from = begins(reliable);
     let l = seen(s, reliable, k);
     Parts {
-        small: memory::bytes_span(small, from.small, l.small),
-        lanes: memory::bytes_span(lanes, from.lanes, l.lanes),
-        out: memory::bytes_span(out, from.out, l.out),
-        table: memory::words_span(table, from.table, l.table),
+        small: memory::bytes_span(small, begins(reliable, memory::SMALL), l.small),
+        lanes: memory::bytes_span(lanes, begins(reliable, memory::LANES), l.lanes),
+        out: memory::bytes_span(out, begins(reliable, memory::OUT), l.out),
+        table: memory::words_span(table, begins(reliable, memory::TABLE), l.table),
     }
 }
 
-// Makes a call with the sender's own memory, and answers it.
+// Makes a call with what it sees of the memory, and answers it. A round has a line for each packet.
 fn answer(
     s: Senders,
     reliable: bool,
@@ -264,38 +251,10 @@ fn answer(
 {
     let done = made(s, reliable, c.k, numbers, bytes, small, lanes, out, table);
     let said = done.said;
-    let senders = kept(done.senders, reliable, said);
-    tell(
-        senders,
-        reliable,
-        said,
-        c,
-        out,
-        table,
-        messages,
-        ranges,
-        page,
-    )
-}
-
-// Says what a call answers and the memory in use, and a line for each packet of a round.
-fn tell(
-    s: Senders,
-    reliable: bool,
-    said: Said,
-    c: Call,
-    out: &[u8],
-    table: &[u64],
-    messages: &mut [u64],
-    ranges: &mut [u64],
-    page: &mut [u8],
-) -> Told
-    requires { ⌜ Sound s ⌝ }
-    ensures { λ r. ⌜ Sound (r .senders) ⌝ }
-{
-    let a = say_all(page, c.at, said, usage(s, reliable));
+    let senders = lent_after(done.senders, reliable, said);
+    let a = say_all(page, c.at, said, usage(senders, reliable));
     let at = answers::packets::listed(page, a, c.n, sent(said), out, table, messages, ranges);
-    Told { senders: s, at }
+    Told { senders, at }
 }
 
 fn made(
@@ -315,10 +274,7 @@ fn made(
     match k {
         1 => send(s, reliable, bytes, small, lanes),
         2 => round(s, reliable, numbers, small, lanes, out, table),
-        DIGEST => Done {
-            senders: s,
-            said: digest(small, lanes, out, table),
-        },
+        DIGEST => unchanged(s, digest(small, lanes, out, table)),
         _ => plain(s, reliable, k, numbers),
     }
 }
@@ -330,25 +286,16 @@ fn plain(s: Senders, reliable: bool, k: usize, numbers: &[u64]) -> Done
 {
     match k {
         0 => new(s, reliable, numbers),
-        3 => Done {
-            senders: s,
-            said: Said::Available(available(s, reliable)),
-        },
-        4 => Done {
-            senders: s,
-            said: Said::Can(can_send(s, reliable, page::size(numbers, 0))),
-        },
-        5 => lend(s, reliable, numbers),
+        3 => unchanged(s, Said::Available(available(s, reliable))),
+        4 => unchanged(s, Said::Can(can_send(s, reliable, page::size(numbers, 0)))),
+        5 => unchanged(s, lend(numbers)),
         8 => ack(s, MessageId(page::word(numbers, 0))),
         9 => ack_slice(
             s,
             MessageId(page::word(numbers, 0)),
             SliceIndex(page::word(numbers, 1)),
         ),
-        _ => Done {
-            senders: s,
-            said: Said::Usage,
-        },
+        _ => unchanged(s, Said::Usage),
     }
 }
 
@@ -385,41 +332,55 @@ fn with_su(mut s: Senders, state: SendChannelUnreliable, said: Said) -> Done
     Done { senders: s, said }
 }
 
-fn with_lent(mut s: Senders, reliable: bool, l: Lent) -> Senders
+fn unchanged(s: Senders, said: Said) -> Done
     requires { ⌜ Sound s ⌝ }
-    requires { ⌜ Own l ⌝ }
+    ensures { λ r. ⌜ Sound (r .senders) ⌝ }
+{
+    Done { senders: s, said }
+}
+
+// What a sender is lent after a call.
+fn lent_after(mut s: Senders, reliable: bool, said: Said) -> Senders
+    requires { ⌜ Sound s ⌝ }
     ensures { λ r. ⌜ Sound r ⌝ }
 {
     if reliable {
+        let l = lent_by(s.sr_lent, said);
         s.sr_lent = l;
         return s;
     }
+    let l = lent_by(s.su_lent, said);
     s.su_lent = l;
     s
 }
 
-// A new sender keeps no packet, and a round those that it sent.
-fn kept(s: Senders, reliable: bool, said: Said) -> Senders
-    requires { ⌜ Sound s ⌝ }
-    ensures { λ r. ⌜ Sound r ⌝ }
+// A new sender keeps no packet, and a round those that it sent. What is lent anew is no more than there is.
+fn lent_by(mut l: Lent, said: Said) -> Lent
+    requires { ⌜ Own l ⌝ }
+    ensures { λ r. ⌜ Own r ⌝ }
 {
     match said {
-        Said::Ready => keeping(s, reliable, 0),
-        Said::Sent(w) => keeping(s, reliable, w.packets),
-        _ => s,
+        Said::Ready => l.packets = 0,
+        Said::Sent(w) => l.packets = w.packets,
+        Said::Lent(small, lanes, out, table) => {
+            l.small = at_most(memory::SMALL, small);
+            l.lanes = at_most(memory::LANES, lanes);
+            l.out = at_most(memory::OUT, out);
+            l.table = at_most(memory::TABLE, table);
+        }
+        _ => {}
     }
+    l
 }
 
-fn keeping(mut s: Senders, reliable: bool, packets: usize) -> Senders
-    requires { ⌜ Sound s ⌝ }
-    ensures { λ r. ⌜ Sound r ⌝ }
+fn at_most(most: usize, n: u64) -> usize
+    ensures { λ r. ⌜ r ≤ most ⌝ }
 {
-    if reliable {
-        s.sr_lent.packets = packets;
-        return s;
+    let n = n as usize;
+    if most < n {
+        return most;
     }
-    s.su_lent.packets = packets;
-    s
+    n
 }
 
 // A refused set-up leaves the sender as it was.
@@ -433,26 +394,16 @@ fn new(s: Senders, reliable: bool, numbers: &[u64]) -> Done
         let made = SendChannelReliable::new(channel_id, settings, page::word(numbers, 5));
         let setup = made.answer;
         if let Setup::Refused(why) = setup {
-            return refused(s, why);
+            return unchanged(s, Said::Refused(why));
         }
         return with_sr(s, made.state, Said::Ready);
     }
     let made = SendChannelUnreliable::new(channel_id, settings);
     let setup = made.answer;
     if let Setup::Refused(why) = setup {
-        return refused(s, why);
+        return unchanged(s, Said::Refused(why));
     }
     with_su(s, made.state, Said::Ready)
-}
-
-fn refused(s: Senders, why: Refusal) -> Done
-    requires { ⌜ Sound s ⌝ }
-    ensures { λ r. ⌜ Sound (r .senders) ⌝ }
-{
-    Done {
-        senders: s,
-        said: Said::Refused(why),
-    }
 }
 
 fn send(s: Senders, reliable: bool, message: &[u8], small: &mut [u8], lanes: &mut [u8]) -> Done
@@ -585,31 +536,13 @@ fn usage(s: Senders, reliable: bool) -> u64
     su_of(s).memory_usage_bytes() as u64
 }
 
-// Lends as much of each memory as four numbers say. The packets are kept.
-fn lend(s: Senders, reliable: bool, numbers: &[u64]) -> Done
-    requires { ⌜ Sound s ⌝ }
-    ensures { λ r. ⌜ Sound (r .senders) ⌝ }
-{
-    let l = Lent {
-        small: at_most(memory::SMALL, page::size(numbers, 0)),
-        lanes: at_most(memory::LANES, page::size(numbers, 1)),
-        out: at_most(memory::OUT, page::size(numbers, 2)),
-        table: at_most(memory::TABLE, page::size(numbers, 3)),
-        packets: packets(s, reliable),
-    };
-    Done {
-        senders: with_lent(s, reliable, l),
-        said: Said::Lent(l),
-    }
-}
-
-fn at_most(most: usize, n: usize) -> usize
-    ensures { λ r. ⌜ r ≡ min n most ⌝ }
-{
-    if most < n {
-        return most;
-    }
-    n
+fn lend(numbers: &[u64]) -> Said {
+    Said::Lent(
+        page::word(numbers, 0),
+        page::word(numbers, 1),
+        page::word(numbers, 2),
+        page::word(numbers, 3),
+    )
 }
 
 // How many packets a call sent.
@@ -639,11 +572,11 @@ fn say_answer(page: &mut [u8], at: usize, said: Said) -> usize {
         Said::Unknown => page::text(page, at, b"unknown id"),
         Said::Available(n) => page::line(page, at, b"available #", &[n]),
         Said::Can(holds) => page::yes(page, at, holds),
-        Said::Lent(l) => page::line(
+        Said::Lent(small, lanes, out, table) => page::line(
             page,
             at,
             b"lent small # lanes # out # table #",
-            &[l.small as u64, l.lanes as u64, l.out as u64, l.table as u64],
+            &[small, lanes, out, table],
         ),
         Said::Digest(small, lanes, out, table) => page::line(
             page,
