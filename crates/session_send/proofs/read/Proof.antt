@@ -1,49 +1,37 @@
+-- `session_send::read` meets its contract: each list is one of the two. Assumes nothing.
 use borrow.Author.Needs.{needs}
 use Rattle.session_send.specs.Calls.{callsOf}
 use Rattle.session_send.proofs.read.Statement.{statement}
 use Rattle.session_send.proofs.read.Tie as tie
-use Rattle.session_send.proofs.read.Reads as reads
-use Rattle.session_send.proofs.read.Lts as lts
-use Rattle.arguments.proofs.taken_apart.Reads as taken-apart-reads
 
--- src/lib.rt:114:13
 slice-aggregate-taken-apart : tie.Need-slice-aggregate-taken-apart
 slice-aggregate-taken-apart c = search needs
 
--- src/lib.rt:113:9
 taken-apart-requires : tie.Need-taken-apart-requires
 taken-apart-requires c κs = search needs
 
--- src/lib.rt:113:9
 same-length : tie.Need-same-length
 same-length c = search needs
 
--- src/lib.rt:113:9
 same-length-2 : tie.Need-same-length-2
 same-length-2 c = search needs
 
--- src/lib.rt:113:9
 returns : tie.Need-returns
 unfolding callsOf
 returns c = rw (c .before .before .before .before .before .before .before .before .if1 .taken) (c .before .before .before .before .taken-apart .ensures)
 
--- src/lib.rt:122:9
 slice-aggregate-taken-apart-2 : tie.Need-slice-aggregate-taken-apart-2
 slice-aggregate-taken-apart-2 c = search needs
 
--- src/lib.rt:121:5
 taken-apart-requires-2 : tie.Need-taken-apart-requires-2
 taken-apart-requires-2 c κs = search needs
 
--- src/lib.rt:103:1
 same-length-3 : tie.Need-same-length-3
 same-length-3 c = search needs
 
--- src/lib.rt:103:1
 same-length-4 : tie.Need-same-length-4
 same-length-4 c = search needs
 
--- src/lib.rt:103:1
 returns-2 : tie.Need-returns-2
 unfolding callsOf
 returns-2 c = rw (c .before .before .before .before .before .before .before .before .if1 .left) (c .before .before .before .before .taken-apart2 .ensures)
