@@ -2,7 +2,7 @@
 ghost use Prim.Native.Nat.{_≤_};
 ghost use Rattle.receive_reliable.specs.Receive as rrv;
 ghost use Rattle.receive_unreliable.specs.Receive as ruv;
-ghost use Rattle.session_receive.specs.Sound.{Sound, Within};
+ghost use Rattle.session_receive.specs.Sound.{Sound, Whole};
 use answers::Call;
 use answers::lent;
 use answers::lent::Stores;
@@ -75,7 +75,7 @@ enum Contents {
 
 // The receivers at first.
 pub fn start() -> Receivers
-    ensures { λ r. ⌜ Sound r ⌝ }
+    ensures { λ r. ⌜ Sound r × Whole (r .«reliable_lent») × Whole (r .«unreliable_lent») ⌝ }
 {
     let reliable = ReceiveChannelReliable::new(lent::whole());
     let unreliable = ReceiveChannelUnreliable::new(lent::whole());
@@ -91,7 +91,7 @@ pub fn start() -> Receivers
 
 // All of a receiver's stores.
 fn whole() -> Stores
-    ensures { λ r. ⌜ Within r ⌝ }
+    ensures { λ r. ⌜ Whole r ⌝ }
 {
     Stores {
         small: memory::SMALL,
