@@ -1,8 +1,8 @@
 -- The code's choice, turn by turn, is what the definition reaches; and the three answers of a round. Assumes nothing.
-use Prim.Native.Nat.{ℕ, _+_, _*_, _-_, _≤_, _<_}
+use Prim.Native.Nat.{ℕ, _+_, _*_, _-_, _≤_, _<_, zero-le}
 use mathlib.Core.Path.{_≡_, refl, sym, ap, subst, _∙_}
 use mathlib.Core.Bool.{Bool, true, false, not}
-use mathlib.Core.List.{List, [], _∷_}
+use mathlib.Core.List.{List, [], _∷_, _++_}
 use native.Mathlib.Omega.{arith}
 use native.Mathlib.Numerals.{add-one}
 use borrow.Author.Tests.{not-true, not-false, leb-false, ltb-false}
@@ -16,10 +16,11 @@ use Rattle.words.specs.Lists.{splice, All, reached}
 use Rattle.words.specs.Refusal.{numberOf}
 use Rattle.words.specs.declared.Refusal.{Refusal}
 use Rattle.words.proofs.Lists.{all-at, reached-suc, none-refused}
+use Rattle.words.proofs.Splice.{length-splice}
 use Rattle.words.proofs.Tables.{clash}
 use Rattle.channel.specs.Settings.{laneLen, storesHold}
 use Rattle.channel.proofs.Good.{stores-room}
-use Rattle.pack.specs.Pack.{ITEM, itemsIn, Pack, pack}
+use Rattle.pack.specs.Pack.{ITEM, Item, itemsIn, Pack, pack}
 use Rattle.pack.specs.Steps.{itemWords}
 use Rattle.pack.specs.Encode.{Lent, roundRefusal}
 use Rattle.pack.specs.Rows as rows
@@ -48,14 +49,16 @@ use Rattle.send_reliable.proofs.Select.{visit-small, visit-piece, enoug
 abbrev pub chosenBy : ℕ → List ℕ → ℕ → SendChannelReliable → Chosen
 chosenBy left items m t = record { left = left; items = itemsIn items 0 m; rows = t .rows; pieces = t .pieces }
 
--- after v visits, that is what the definition reaches, and nothing else of the state changed
-pub record ChosenTo (s : SendChannelReliable) (now a v m left : ℕ) (t : SendChannelReliable) (items : List ℕ) : Type 0 where
+-- after v visits, that is what the definition reaches: an item for a visit at most, in a table of z words; nothing else of the state changed
+pub record ChosenTo (s : SendChannelReliable) (now a z v m left : ℕ) (t : SendChannelReliable) (items : List ℕ) : Type 0 where
+  pub few : m ≤ v
+  pub long : length items ≡ z
   pub chosen : chosenBy left items m t ≡ upTo s now a v
   pub state : t ≡ withChosen s (s .latest) (chosenBy left items m t)
 
-pub none-chosen : (s : SendChannelReliable) (now a : ℕ) (items : List ℕ) → ChosenTo s now a 0 0 a s items
+pub none-chosen : (s : SendChannelReliable) (now a : ℕ) (items : List ℕ) → ChosenTo s now a (length items) 0 0 a s items
 unfolding reached itemsIn
-none-chosen s now a items = record { chosen = refl; state = refl }
+none-chosen s now a items = record { few = zero-le; long = refl; chosen = refl; state = refl }
 
 -- ---- a turn
 
@@ -65,25 +68,28 @@ WithinRows s = Within (s .count) (λ k. sizeRow (getD (s .rows) k noRow))
 abbrev visiting : SendChannelReliable → ℕ → Chosen → Visit → Chosen
 visiting s now = visit (s .settings) (s .«resend_time») now
 
--- what is known at the v-th visit
-pub record Turn (s : SendChannelReliable) (now a : ℕ) (visits : List ℕ) (v m left : ℕ) (t : SendChannelReliable) (items : List ℕ) : Type 0 where
+-- what is known at the v-th visit; there is room for an item more
+pub record Turn (s : SendChannelReliable) (now a z : ℕ) (visits : List ℕ) (v m left : ℕ) (t : SendChannelReliable) (items : List ℕ) : Type 0 where
+  pub so-far : ChosenTo s now a z v m left t items
+  pub room : ITEM * (m + 1) ≤ length items
   pub kept : Kept s now (chosenBy left items m t)
   pub within : WithinRows s (visitAt visits v)
   pub row-low : getD visits (VISIT * v) 0 < ROWS
   pub next : visiting s now (chosenBy left items m t) (visitAt visits v) ≡ upTo s now a (v + 1)
-  pub state : t ≡ withChosen s (s .latest) (chosenBy left items m t)
 
-module _ (s : SendChannelReliable) (f : Valid s) (now a : ℕ) (h : s .latest ≤ now) (visits : List ℕ) (n : ℕ) (vs : visitsIn visits n ≡ visitsFrom 0 (live s)) where
+module _ (s : SendChannelReliable) (f : Valid s) (now a : ℕ) (h : s .latest ≤ now) (visits : List ℕ) (n : ℕ) (vs : visitsIn visits n ≡ visitsFrom 0 (live s)) (z : ℕ) where
   visit-is : (v : ℕ) → v < n → getD (visitsFrom 0 (live s)) v (record { row = 0; piece = 0 }) ≡ visitAt visits v
   visit-is v low =
       let z : 0 + v ≡ v = omega arith in
       ap (λ (l : List Visit). getD l v (record { row = 0; piece = 0 })) (sym vs) ∙ getD-each (visitAt visits) 0 n v (record { row = 0; piece = 0 }) low ∙ ap (visitAt visits) z
 
-  pub turn : (v m left : ℕ) (t : SendChannelReliable) (items : List ℕ) → ChosenTo s now a v m left t items → v < n → Turn s now a visits v m left t items
-  turn v m left t items w low =
+  pub turn : ITEM * n ≤ z → (v m left : ℕ) (t : SendChannelReliable) (items : List ℕ) → ChosenTo s now a z v m left t items → v < n → Turn s now a z visits v m left t items
+  turn full v m left t items w low =
       let l : v < length (visitsFrom 0 (live s)) = omega (arith, visits-count visits n (visitsFrom 0 (live s)) vs) in
       let q : WithinRows s (visitAt visits v) = subst (WithinRows s) (visit-is v low) (all-at (WithinRows s) (visitsFrom 0 (live s)) v (record { row = 0; piece = 0 }) l (visits-within s f)) in
       record {
+        so-far = w;
+        room = omega (arith, w .few, w .long);
         kept = subst (Kept s now) (sym (w .chosen)) (upTo-kept s f now h a v);
         within = q;
         row-low = omega (arith, q .0, rows-room s f, f .rows-long);
@@ -91,19 +97,18 @@ module _ (s : SendChannelReliable) (f : Valid s) (now a : ℕ) (h : s .latest �
             ap (λ (c : Chosen). visiting s now c (visitAt visits v)) (w .chosen)
             ∙ sym (ap (λ (k : ℕ). reached (visiting s now) (unvisited s a) (take k (visitsFrom 0 (live s)))) (add-one v) ∙ reached-suc (λ (c : Chosen) (x : Visit). x) (visiting s now) (unvisited s a) (visitsFrom 0 (live s)) v (record { row = 0; piece = 0 }) l
             ∙ ap (visiting s now (upTo s now a v)) (visit-is v low));
-        state = w .state;
       }
 
   -- at the end
-  pub all-chosen : (m left : ℕ) (t : SendChannelReliable) (items : List ℕ) (v : ℕ) → ChosenTo s now a v m left t items → n ≤ v → m ≤ n
+  pub all-chosen : (m left : ℕ) (t : SendChannelReliable) (items : List ℕ) (v : ℕ) → v ≤ n → n ≤ v → ChosenTo s now a z v m left t items
       → Selects s now a n items (record { items = m; state = withChosen t now (chosenBy left items m t) })
   unfolding select
-  all-chosen m left t items v w e few =
+  all-chosen m left t items v within past w =
       let c : chosenBy left items m t ≡ select s now a =
       w .chosen ∙ ap (reached (visiting s now) (unvisited s a)) (take-all v (visitsFrom 0 (live s)) (omega (arith, visits-count visits n (visitsFrom 0 (live s)) vs))) in
       record {
         items = ap (λ (d : Chosen). d .items) c;
-        few = few;
+        few = omega (arith, w .few);
         state = ap (λ (u : SendChannelReliable). withChosen u now (chosenBy left items m t)) (w .state) ∙ ap (withChosen s now) c;
       }
 
@@ -111,79 +116,76 @@ module _ (s : SendChannelReliable) (f : Valid s) (now a : ℕ) (h : s .latest �
 abbrev pub put : SendChannelReliable → List Row → List Piece → SendChannelReliable
 put t rows pieces = withChosen t (t .latest) (record { left = 0; items = []; rows = rows; pieces = pieces })
 
-module _ {s : SendChannelReliable} {now a : ℕ} {visits : List ℕ} {v m left : ℕ} {t : SendChannelReliable} {items : List ℕ} (k : Turn s now a visits v m left t items) where
+module _ {s : SendChannelReliable} {now a z : ℕ} {visits : List ℕ} {v m left : ℕ} {t : SendChannelReliable} {items : List ℕ} (k : Turn s now a z visits v m left t items) where
   abbrev r : Row
   r = getD (t .rows) (getD visits (VISIT * v) 0) noRow
 
   abbrev i : ℕ
   i = getD visits (VISIT * v + 1) 0
 
-  passed : visiting s now (chosenBy left items m t) (visitAt visits v) ≡ chosenBy left items m t → ChosenTo s now a (v + 1) m left t items
-  passed e = record { chosen = sym e ∙ k .next; state = k .state }
+  -- nothing goes
+  passed : visiting s now (chosenBy left items m t) (visitAt visits v) ≡ chosenBy left items m t → ChosenTo s now a z (v + 1) m left t items
+  passed e = record { few = omega (arith, k .so-far .few); long = k .so-far .long; chosen = sym e ∙ k .next; state = k .so-far .state }
 
+  -- an item more, and these tables
+  more : (w : Item) (items' : List ℕ) (left' : ℕ) (rows : List Row) (pieces : List Piece) → items' ≡ splice (ITEM * m) (itemWords w) items
+      → visiting s now (chosenBy left items m t) (visitAt visits v) ≡ record { left = left'; items = itemsIn items 0 m ++ (w ∷ []); rows = rows; pieces = pieces }
+      → ChosenTo s now a z (v + 1) (m + 1) left' (put t rows pieces) items'
+  more w items' left' rows pieces q e =
+      record {
+        few = omega (arith, k .so-far .few);
+        long = ap length q ∙ length-splice (ITEM * m) (itemWords w) items ∙ k .so-far .long;
+        chosen = rw (q, items-put items m w (k .room)) (sym e ∙ k .next);
+        state = ap (λ (u : SendChannelReliable). put u rows pieces) (k .so-far .state);
+      }
+
+  -- a small message: b says whether it goes, and `row` is the row that is put for it
   module _ (cell : ℕ) (last : Sending) (e : kindOf r ≡ Small cell last) where
-    abbrev small-rows : List Row
-    small-rows = set (t .rows) (getD visits (VISIT * v) 0) (asRow (r .id) (r .len) (Small cell (sentAt now)))
-
     pub at-small : SmallHere s now r cell last
     at-small = small-here s now (chosenBy left items m t) (k .kept) (visitAt visits v) (k .within) cell last e
 
-    pub small-covered : goes (s .«resend_time») now left (r .len) (lastSent last) ≡ true → r .len ≤ left
-    small-covered g = enough (s .«resend_time») now left (r .len) (lastSent last) g
+    module _ (b : Bool) (eb : b ≡ goes (s .«resend_time») now left (r .len) (lastSent last)) where
+      pub small-covered : b ≡ true → r .len ≤ left
+      small-covered g = enough (s .«resend_time») now left (r .len) (lastSent last) (sym eb ∙ g)
 
-    pub small-passed : goes (s .«resend_time») now left (r .len) (lastSent last) ≡ false → ChosenTo s now a (v + 1) m left t items
-    small-passed g = passed (visit-small (s .settings) (s .«resend_time») now (chosenBy left items m t) (visitAt visits v) cell last e ∙ rw g)
+      pub small-passed : b ≡ false → ChosenTo s now a z (v + 1) m left t items
+      small-passed g = passed (visit-small (s .settings) (s .«resend_time») now (chosenBy left items m t) (visitAt visits v) cell last e ∙ rw (sym eb ∙ g))
 
-    pub small-chosen : goes (s .«resend_time») now left (r .len) (lastSent last) ≡ true
-        → ITEM * (m + 1) ≤ length items
-        → (items' : List ℕ) → items' ≡ splice (ITEM * m) (itemWords (record { num = 0; id = r .id .0; index = 0; place = cell * SLICE_SIZE; len = r .len })) items
-        → ChosenTo s now a (v + 1) (m + 1) (left - r .len)
-        (put t small-rows (t .pieces)) items'
-    small-chosen g h items' q =
-        record {
-          chosen = rw (q, items-put items m (record { num = 0; id = r .id .0; index = 0; place = cell * SLICE_SIZE; len = r .len }) h) (sym (visit-small (s .settings) (s .«resend_time») now (chosenBy left items m t) (visitAt visits v) cell last e ∙ rw g) ∙ k .next);
-          state = ap (λ (u : SendChannelReliable). put u small-rows (t .pieces)) (k .state);
-        }
+      pub small-chosen : b ≡ true → (row : Row) → row ≡ asRow (r .id) (r .len) (Small cell (sentAt now))
+          → (items' : List ℕ) → items' ≡ splice (ITEM * m) (itemWords (record { num = 0; id = r .id .0; index = 0; place = cell * SLICE_SIZE; len = r .len })) items
+          → ChosenTo s now a z (v + 1) (m + 1) (left - r .len) (put t (set (t .rows) (getD visits (VISIT * v) 0) row) (t .pieces)) items'
+      small-chosen g row er items' q =
+          more _ items' _ _ (t .pieces) q (visit-small (s .settings) (s .«resend_time») now (chosenBy left items m t) (visitAt visits v) cell last e ∙ rw (sym eb ∙ g, er))
 
-  module _ (l b next : ℕ) (e : kindOf r ≡ Sliced l b next) where
+  -- a piece
+  module _ (l d next : ℕ) (e : kindOf r ≡ Sliced l d next) where
     abbrev p : Piece
     p = getD (t .pieces) (l * PIECES + i) noPiece
 
-    abbrev piece-rows : List Row
-    piece-rows = set (t .rows) (getD visits (VISIT * v) 0) (asRow (r .id) (r .len) (Sliced l b (i + 1)))
+    pub at-piece : PieceHere s now (chosenBy left items m t) r l d i
+    at-piece = piece-here s now (chosenBy left items m t) (k .kept) (visitAt visits v) (k .within) l d next e
 
-    abbrev sent-pieces : List Piece
-    sent-pieces = set (t .pieces) (l * PIECES + i) (record { acked = p .acked; sending = sentAt now })
+    piece-passed : pick (p .acked) false (goes (s .«resend_time») now left SLICE_SIZE (lastSent (p .sending))) ≡ false → ChosenTo s now a z (v + 1) m left t items
+    piece-passed g = passed (visit-piece (s .settings) (s .«resend_time») now (chosenBy left items m t) (visitAt visits v) l d next e ∙ rw g)
 
-    pub at-piece : PieceHere s now (chosenBy left items m t) r l b i
-    at-piece = piece-here s now (chosenBy left items m t) (k .kept) (visitAt visits v) (k .within) l b next e
-
-    pub piece-covered : goes (s .«resend_time») now left SLICE_SIZE (lastSent (p .sending)) ≡ true → pieceLen (r .len) i ≤ left
-    piece-covered g = omega (arith, enough (s .«resend_time») now left SLICE_SIZE (lastSent (p .sending)) g, piece-most (r .len) i (at-piece .piece))
-
-    abbrev tests : Bool
-    tests = pick (p .acked) false (goes (s .«resend_time») now left SLICE_SIZE (lastSent (p .sending)))
-
-    piece-passed : tests ≡ false → ChosenTo s now a (v + 1) m left t items
-    piece-passed g = passed (visit-piece (s .settings) (s .«resend_time») now (chosenBy left items m t) (visitAt visits v) l b next e ∙ rw g)
-
-    -- a piece that is acked, and one that is not due or not covered
-    pub piece-acked : not (p .acked) ≡ false → ChosenTo s now a (v + 1) m left t items
+    -- one that is acked
+    pub piece-acked : not (p .acked) ≡ false → ChosenTo s now a z (v + 1) m left t items
     piece-acked u = piece-passed (rw (not-false (p .acked) u))
 
-    pub piece-stays : not (p .acked) ≡ true → goes (s .«resend_time») now left SLICE_SIZE (lastSent (p .sending)) ≡ false → ChosenTo s now a (v + 1) m left t items
-    piece-stays u g = piece-passed (rw (not-true (p .acked) u) g)
+    module _ (u : not (p .acked) ≡ true) (b : Bool) (eb : b ≡ goes (s .«resend_time») now left SLICE_SIZE (lastSent (p .sending))) where
+      pub piece-covered : b ≡ true → pieceLen (r .len) i ≤ left
+      piece-covered g = omega (arith, enough (s .«resend_time») now left SLICE_SIZE (lastSent (p .sending)) (sym eb ∙ g), piece-most (r .len) i (at-piece .piece))
 
-    pub piece-chosen : not (p .acked) ≡ true → goes (s .«resend_time») now left SLICE_SIZE (lastSent (p .sending)) ≡ true
-        → ITEM * (m + 1) ≤ length items → (items' : List ℕ) (num size : ℕ) → num ≡ piecesOf (r .len) → size ≡ pieceLen (r .len) i
-        → items' ≡ splice (ITEM * m) (itemWords (record { num = num; id = r .id .0; index = i; place = l * laneLen (s .settings) + i * SLICE_SIZE; len = size })) items
-        → ChosenTo s now a (v + 1) (m + 1) (left - size)
-        (put t piece-rows sent-pieces) items'
-    piece-chosen u g h items' num size en es q =
-        record {
-          chosen = rw (q, items-put items m (record { num = num; id = r .id .0; index = i; place = l * laneLen (s .settings) + i * SLICE_SIZE; len = size }) h, en, es) (sym (visit-piece (s .settings) (s .«resend_time») now (chosenBy left items m t) (visitAt visits v) l b next e ∙ rw (not-true (p .acked) u, g)) ∙ k .next);
-          state = ap (λ (u : SendChannelReliable). put u piece-rows sent-pieces) (k .state);
-        }
+      pub piece-stays : b ≡ false → ChosenTo s now a z (v + 1) m left t items
+      piece-stays g = piece-passed (rw (not-true (p .acked) u) (sym eb ∙ g))
+
+      pub piece-chosen : b ≡ true → (row : Row) → row ≡ asRow (r .id) (r .len) (Sliced l d (i + 1))
+          → (items' : List ℕ) (num size : ℕ) → num ≡ piecesOf (r .len) → size ≡ pieceLen (r .len) i
+          → items' ≡ splice (ITEM * m) (itemWords (record { num = num; id = r .id .0; index = i; place = l * laneLen (s .settings) + i * SLICE_SIZE; len = size })) items
+          → ChosenTo s now a z (v + 1) (m + 1) (left - size)
+          (put t (set (t .rows) (getD visits (VISIT * v) 0) row) (set (t .pieces) (l * PIECES + i) (record { acked = p .acked; sending = sentAt now }))) items'
+      piece-chosen g row er items' num size en es q =
+          more _ items' _ _ _ q (visit-piece (s .settings) (s .«resend_time») now (chosenBy left items m t) (visitAt visits v) l d next e ∙ rw (not-true (p .acked) u, sym eb ∙ g, er, en, es))
 
 -- ---- a round
 

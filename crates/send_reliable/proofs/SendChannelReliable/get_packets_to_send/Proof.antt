@@ -1,5 +1,5 @@
 -- `SendChannelReliable::get_packets_to_send` meets its contract: each answer by what judged it. Assumes nothing.
-use mathlib.Core.Path.{_≡_, sym, ap, _∙_}
+use mathlib.Core.Path.{_≡_, refl, sym, ap, _∙_}
 use native.Mathlib.Omega.{arith}
 use Rattle.pack.specs.Rows.{verdictOf}
 use Rattle.send_reliable.specs.Round.{Given, entryRefusal}
@@ -22,10 +22,10 @@ unfolding entryRefusal
 entered c = ap verdictOf (sym (c .enum-told .given .1)) ∙ c .before .before .judge-round .ensures
 
 judge-round-requires : tie.Need-judge-round-requires
-judge-round-requires c κs = search needs
+judge-round-requires c κs = c .before .before .before .before .before .pre .settings
 
 enum-known-verdict : tie.Need-enum-known-verdict
-enum-known-verdict c = search needs
+enum-known-verdict c = c .match .keys1
 
 returns : tie.Need-returns
 unfolding entryRefusal
@@ -34,13 +34,13 @@ returns c =
     round-refused (s .args .self) (s .pre) (given s) (s .args .out .now) (s .args .table .now) (c .before .verdict .given .0 .0) (ap verdictOf (sym (c .before .verdict .given .1)) ∙ c .before .before .before .judge-round .ensures)
 
 enum-told : tie.Need-enum-told
-enum-told c = search needs
+enum-told c = c .match .keys2
 
 slice-aggregate-write-visits : tie.Need-slice-aggregate-write-visits
-slice-aggregate-write-visits c = search needs
+slice-aggregate-write-visits c = refl
 
 write-visits-requires : tie.Need-write-visits-requires
-write-visits-requires c κs = search needs
+write-visits-requires c κs = (c .before .before .before .before .before .before .before .before .before .pre, omega arith)
 
 slice-aggregate-select : tie.Need-slice-aggregate-select
 slice-aggregate-select c = search needs
@@ -70,10 +70,10 @@ send-requires c κs =
     (omega arith, (omega arith, (items-go (s .args .self) (s .pre) (given s) (s .args .out .now) (s .args .table .now) e (n .result) (r .last .1 .1 .1 .1 .1 .0) (r .result) (r .ensures), t .1)))
 
 enum-told-2 : tie.Need-enum-told-2
-enum-told-2 c = search needs
+enum-told-2 c = c .match2 .keys1
 
 enum-told-3 : tie.Need-enum-told-3
-enum-told-3 c = search needs
+enum-told-3 c = c .match2 .keys2
 
 same-length : tie.Need-same-length
 same-length c = search needs

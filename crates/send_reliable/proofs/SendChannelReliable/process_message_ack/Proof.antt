@@ -27,10 +27,10 @@ judge-message-ack-requires : tie.Need-judge-message-ack-requires
 judge-message-ack-requires c κs = search needs
 
 enum-known-step : tie.Need-enum-known-step
-enum-known-step c = search needs
+enum-known-step c = c .match .keys1
 
 enum-known-step-2 : tie.Need-enum-known-step-2
-enum-known-step-2 c = search needs
+enum-known-step-2 c = c .match .keys2
 
 element-write-self : tie.Need-element-write-self
 element-write-self c = let h = here (c .before) in omega (arith, cell-low _ (c .before .before .before .before .before .before .pre) _ _ (h .at) _ (h .sending) (h .kind))

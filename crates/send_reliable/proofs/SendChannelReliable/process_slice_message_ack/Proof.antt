@@ -36,10 +36,10 @@ unfolding foundOf
 judge-slice-ack-requires c κs = short-found _ (c .before .before .pre) _ _ (sym (c .find .ensures))
 
 enum-known-step : tie.Need-enum-known-step
-enum-known-step c = search needs
+enum-known-step c = c .match .keys1
 
 enum-known-step-2 : tie.Need-enum-known-step-2
-enum-known-step-2 c = search needs
+enum-known-step-2 c = c .match .keys2
 
 mul-at : tie.Need-mul-at
 mul-at c = let h = here (c .before) in omega (arith, lane-low _ (c .before .before .before .before .before .before .pre) _ _ (h .at) _ _ _ (h .kind))

@@ -1,14 +1,13 @@
 -- `SendChannelReliable::select` meets its contract. The loop's invariant: after v visits the code has chosen what the definition reaches, m items.
 -- Assumes nothing.
 use Prim.Native.Nat.{_+_, _*_, _-_, _≤_}
-use mathlib.Core.Path.{_≡_, refl, sym, _∙_}
+use mathlib.Core.Path.{_≡_, sym, _∙_}
 use mathlib.Core.Logic.{⊎-elim}
 use native.Mathlib.Omega.{arith}
 use borrow.Author.Needs.{needs}
 use lib.ListN.{length, getD}
 use Rattle.channel.specs.Settings.{Good}
 use Rattle.channel.proofs.Good.{lane-end}
-use Rattle.pack.specs.Pack.{ITEM}
 use Rattle.pack.proofs.Pieces.{pieces-needed}
 use Rattle.send_reliable.specs.declared.Kind.the-variants.{Small, Sliced}
 use Rattle.send_reliable.specs.Sender.{kindOf, noRow}
@@ -20,7 +19,7 @@ use Rattle.send_reliable.proofs.SendChannelReliable.select.Tie as tie
 
 abbrev Inv-loop : tie.InvT-loop
 Inv-loop visits n current-time allowance items₀ self₀ resend-time lane-len sending left₀ m₀ v₀ items self left m v =
-    (v ≤ n) × (m ≤ v) × (length items ≡ length items₀) × ChosenTo self₀ current-time allowance v m left self items
+    (v ≤ n) × ChosenTo self₀ current-time allowance (length items₀) v m left self items
 
 abbrev μ-loop : tie.MeasureT-loop
 μ-loop visits n current-time allowance items₀ self₀ resend-time lane-len sending left₀ m₀ v₀ items self left m v = n - v
@@ -40,12 +39,12 @@ piece-put c = c .before .before .before .before .before .before .before .before 
 
 -- what is known at a visit, of the small message there, and of the piece there
 known : (c : tie.In-loop Inv-loop μ-loop) → (let a = c .before .before .before .before .args in let l = c .before .loop in
-    Turn (a .t1) (a .current-time) (a .allowance) (a .visits .now) (l .v) (l .m) (l .left) (l .self) (l .items))
+    Turn (a .t1) (a .current-time) (a .allowance) (length (a .items .now)) (a .visits .now) (l .v) (l .m) (l .left) (l .self) (l .items))
 known c =
     let s = c .before .before .before .before in
     let a = s .args in
     let l = c .before .loop in
-    turn (a .t1) (s .pre .0) (a .current-time) (a .allowance) (s .pre .1 .0) (a .visits .now) (a .n) (s .pre .1 .1 .1 .0) (l .v) (l .m) (l .left) (l .self) (l .items) (l .inv .3) (c .loop-test .taken)
+    turn (a .t1) (s .pre .0) (a .current-time) (a .allowance) (s .pre .1 .0) (a .visits .now) (a .n) (s .pre .1 .1 .1 .0) (length (a .items .now)) (s .pre .1 .1 .1 .1) (l .v) (l .m) (l .left) (l .self) (l .items) (l .inv .1) (c .loop-test .taken)
 
 small-kind : (c : tie.After-known-told Inv-loop μ-loop) → (let i = small-turn c in let a = i .before .before .before .before .args in let l = i .before .loop in
     kindOf (getD (l .self .rows) (getD (a .visits .now) (VISIT * l .v) 0) noRow) ≡ Small (c .before .kind2 .given .0 .0) (c .before .kind2 .given .0 .1 .0))
@@ -68,15 +67,11 @@ piece c = at-piece (known (piece-turn c)) (c .before .kind3 .given .0 .0) (c .be
 good : (c : tie.In-loop Inv-loop μ-loop) → Good (c .before .before .before .before .args .t1 .settings)
 good c = c .before .before .before .before .pre .0 .settings
 
--- there is room for an item more
-room : (c : tie.In-loop Inv-loop μ-loop) → (let l = c .before .loop in ITEM * (l .m + 1) ≤ length (l .items))
-room c = omega (arith, c .loop-test .taken, c .before .loop .inv, c .before .before .before .before .pre .1 .1 .1 .1)
-
 mul-lane-len : tie.Need-mul-lane-len Inv-loop μ-loop
 mul-lane-len c = let g = c .before .before .pre .0 .settings .pieces-most in omega arith
 
 loop-holds : tie.Need-loop-holds Inv-loop μ-loop
-loop-holds c = let a = c .before .before .args in (omega arith, omega arith, refl, none-chosen (a .t1) (a .current-time) (a .allowance) (a .items .now))
+loop-holds c = let a = c .before .before .args in (omega arith, none-chosen (a .t1) (a .current-time) (a .allowance) (a .items .now))
 
 mul-k : tie.Need-mul-k Inv-loop μ-loop
 mul-k c = omega arith
@@ -85,7 +80,7 @@ mul-k-2 : tie.Need-mul-k-2 Inv-loop μ-loop
 mul-k-2 c = omega arith
 
 shared-slice-read-k : tie.Need-shared-slice-read-k Inv-loop μ-loop
-shared-slice-read-k c = omega arith
+shared-slice-read-k c = omega (arith, c .before .loop-test .taken, c .before .before .before .before .before .pre .1 .1 .0)
 
 mul-i : tie.Need-mul-i Inv-loop μ-loop
 mul-i c = omega arith
@@ -97,10 +92,10 @@ mul-i-2 : tie.Need-mul-i-2 Inv-loop μ-loop
 mul-i-2 c = omega arith
 
 shared-slice-read-i : tie.Need-shared-slice-read-i Inv-loop μ-loop
-shared-slice-read-i c = omega arith
+shared-slice-read-i c = omega (arith, c .before .before .loop-test .taken, c .before .before .before .before .before .before .pre .1 .1 .0)
 
 add-v : tie.Need-add-v Inv-loop μ-loop
-add-v c = omega arith
+add-v c = omega (arith, c .before .before .loop-test .taken, c .before .before .before .before .before .before .fits .n)
 
 mul-row : tie.Need-mul-row Inv-loop μ-loop
 mul-row c = let k = known (c .before .before) .row-low in omega arith
@@ -115,7 +110,7 @@ kind-requires : tie.Need-kind-requires Inv-loop μ-loop
 kind-requires c κs = search needs
 
 enum-known-kind : tie.Need-enum-known-kind Inv-loop μ-loop
-enum-known-kind c = search needs
+enum-known-kind c = c .match .keys1
 
 goes-requires : tie.Need-goes-requires Inv-loop μ-loop
 goes-requires c κs = small c .sent
@@ -133,13 +128,16 @@ mul-put-item : tie.Need-mul-put-item Inv-loop μ-loop
 mul-put-item c = let h = small (c .before .before .before .before) in let g = good (small-turn (c .before .before .before .before)) in omega arith
 
 put-item-requires : tie.Need-put-item-requires Inv-loop μ-loop
-put-item-requires c κs = room (small-turn (c .before .before .before .before))
+put-item-requires c κs = known (small-turn (c .before .before .before .before)) .room
 
 sub-left : tie.Need-sub-left Inv-loop μ-loop
-sub-left c = let e = small-put c .before .kind2 .given .0 in omega (arith, small-covered (known (small-turn (small-put c))) (e .0) (e .1 .0) (small-kind (small-put c)) (sym (c .before .before .before .before .before .before .goes .ensures) ∙ c .before .before .before .before .before .if1 .taken))
+sub-left c =
+    let e = small-put c .before .kind2 .given .0 in
+    let b = c .before .before .before .before .before .before .goes in
+    small-covered (known (small-turn (small-put c))) (e .0) (e .1 .0) (small-kind (small-put c)) (b .result) (b .ensures) (c .before .before .before .before .before .if1 .taken)
 
 add-m : tie.Need-add-m Inv-loop μ-loop
-add-m c = let i = small-turn (small-put c) in omega (arith, i .loop-test .taken, i .before .loop .inv, i .before .before .before .before .fits .n)
+add-m c = let i = small-turn (small-put c) in omega (arith, i .loop-test .taken, i .before .loop .inv .1 .few, i .before .before .before .before .fits .n)
 
 loop-less : tie.Need-loop-less Inv-loop μ-loop
 loop-less c = let h = small-turn (small-put c) .loop-test .taken in omega arith
@@ -147,12 +145,12 @@ loop-less c = let h = small-turn (small-put c) .loop-test .taken in omega arith
 loop-again : tie.Need-loop-again Inv-loop μ-loop
 loop-again c =
     let i = small-turn (small-put c) in
-    let e = small-put c .before .kind2 .given .0 in (
+    let e = small-put c .before .kind2 .given .0 in
+    let b = c .before .before .before .before .before .before .goes in
+    let row = c .before .before .before .before .new in
+    let put = c .before .before .put-item in (
       omega (arith, i .loop-test .taken),
-      omega (arith, i .before .loop .inv),
-      omega (arith, i .before .loop .inv),
-      rw (c .before .before .before .before .new .ensures)
-          (small-chosen (known i) (e .0) (e .1 .0) (small-kind (small-put c)) (sym (c .before .before .before .before .before .before .goes .ensures) ∙ c .before .before .before .before .before .if1 .taken) (room i) (c .before .before .put-item .last .0) (c .before .before .put-item .ensures)),
+      small-chosen (known i) (e .0) (e .1 .0) (small-kind (small-put c)) (b .result) (b .ensures) (c .before .before .before .before .before .if1 .taken) (row .result) (row .ensures) (put .last .0) (put .ensures),
     )
 
 loop-less-2 : tie.Need-loop-less-2 Inv-loop μ-loop
@@ -163,13 +161,11 @@ loop-again-2 c =
     let i = small-turn (c .before .before) in
     let e = c .before .before .before .kind2 .given .0 in (
       omega (arith, i .loop-test .taken),
-      omega (arith, i .before .loop .inv),
-      i .before .loop .inv .2,
-      small-passed (known i) (e .0) (e .1 .0) (small-kind (c .before .before)) (sym (c .before .goes .ensures) ∙ c .if1 .left),
+      small-passed (known i) (e .0) (e .1 .0) (small-kind (c .before .before)) (c .before .goes .result) (c .before .goes .ensures) (c .if1 .left),
     )
 
 enum-known-kind-2 : tie.Need-enum-known-kind-2 Inv-loop μ-loop
-enum-known-kind-2 c = search needs
+enum-known-kind-2 c = c .match .keys2
 
 mul-j : tie.Need-mul-j Inv-loop μ-loop
 mul-j c = let h = piece c .entry in omega arith
@@ -223,15 +219,17 @@ num-slices-requires : tie.Need-num-slices-requires Inv-loop μ-loop
 num-slices-requires c κs = let h = piece (c .before .before .before .before .before .before .before .before) .fits in let g = good (piece-turn (c .before .before .before .before .before .before .before .before)) in omega arith
 
 put-item-requires-2 : tie.Need-put-item-requires-2 Inv-loop μ-loop
-put-item-requires-2 c κs = room (piece-turn (c .before .before .before .before .before .before .before .before .before))
+put-item-requires-2 c κs = known (piece-turn (c .before .before .before .before .before .before .before .before .before)) .room
 
 sub-left-2 : tie.Need-sub-left-2 Inv-loop μ-loop
 sub-left-2 c =
     let e = piece-put c .before .kind3 .given .0 in
-    omega (arith, piece-covered (known (piece-turn (piece-put c))) (e .0) (e .1 .0) (e .1 .1 .0) (piece-kind (piece-put c)) (sym (c .before .before .before .before .before .before .before .goes2 .ensures) ∙ c .before .before .before .before .before .before .if3 .taken), c .before .before .before .before .before .before .before .before .before .slice-len .ensures)
+    let b = c .before .before .before .before .before .before .before .goes2 in
+    let covered = piece-covered (known (piece-turn (piece-put c))) (e .0) (e .1 .0) (e .1 .1 .0) (piece-kind (piece-put c)) (c .before .before .before .before .before .before .before .before .if2 .taken) (b .result) (b .ensures) (c .before .before .before .before .before .before .if3 .taken) in
+    omega (arith, c .before .before .before .before .before .before .before .before .before .slice-len .ensures)
 
 add-m-2 : tie.Need-add-m-2 Inv-loop μ-loop
-add-m-2 c = let i = piece-turn (piece-put c) in omega (arith, i .loop-test .taken, i .before .loop .inv, i .before .before .before .before .fits .n)
+add-m-2 c = let i = piece-turn (piece-put c) in omega (arith, i .loop-test .taken, i .before .loop .inv .1 .few, i .before .before .before .before .fits .n)
 
 loop-less-3 : tie.Need-loop-less-3 Inv-loop μ-loop
 loop-less-3 c = let h = piece-turn (piece-put c) .loop-test .taken in omega arith
@@ -240,14 +238,14 @@ loop-again-3 : tie.Need-loop-again-3 Inv-loop μ-loop
 loop-again-3 c =
     let i = piece-turn (piece-put c) in
     let e = piece-put c .before .kind3 .given .0 in
+    let b = c .before .before .before .before .before .before .before .goes2 in
+    let row = c .before .before .before .before .before .new2 in
     let num = c .before .before .before .num-slices in
-    let size = c .before .before .before .before .before .before .before .before .before .slice-len in (
+    let size = c .before .before .before .before .before .before .before .before .before .slice-len in
+    let put = c .before .before .put-item2 in (
       omega (arith, i .loop-test .taken),
-      omega (arith, i .before .loop .inv),
-      omega (arith, i .before .loop .inv),
-      rw (c .before .before .before .before .before .new2 .ensures)
-          (piece-chosen (known i) (e .0) (e .1 .0) (e .1 .1 .0) (piece-kind (piece-put c)) (c .before .before .before .before .before .before .before .before .if2 .taken) (sym (c .before .before .before .before .before .before .before .goes2 .ensures) ∙ c .before .before .before .before .before .before .if3 .taken) (room i)
-          (c .before .before .put-item2 .last .0) (num .result) (size .result) (num .ensures) (size .ensures) (c .before .before .put-item2 .ensures)),
+      piece-chosen (known i) (e .0) (e .1 .0) (e .1 .1 .0) (piece-kind (piece-put c)) (c .before .before .before .before .before .before .before .before .if2 .taken) (b .result) (b .ensures) (c .before .before .before .before .before .before .if3 .taken) (row .result) (row .ensures)
+          (put .last .0) (num .result) (size .result) (num .ensures) (size .ensures) (put .ensures),
     )
 
 loop-less-4 : tie.Need-loop-less-4 Inv-loop μ-loop
@@ -259,21 +257,19 @@ loop-again-4 c =
     let i = piece-turn d in
     let e = d .before .kind3 .given .0 in (
       omega (arith, i .loop-test .taken),
-      omega (arith, i .before .loop .inv),
-      i .before .loop .inv .2,
-      ⊎-elim (λ w. piece-stays (known i) (e .0) (e .1 .0) (e .1 .1 .0) (piece-kind d) (w .0 .taken) (sym (w .1 .ensures) ∙ w .2 .left))
+      ⊎-elim (λ w. piece-stays (known i) (e .0) (e .1 .0) (e .1 .1 .0) (piece-kind d) (w .0 .taken) (w .1 .result) (w .1 .ensures) (w .2 .left))
           (λ w. piece-acked (known i) (e .0) (e .1 .0) (e .1 .1 .0) (piece-kind d) (w .left)) (c .if2 .came),
     )
 
 same-length : tie.Need-same-length Inv-loop μ-loop
-same-length c = c .before .loop .inv .2
+same-length c = c .before .loop .inv .1 .long
 
 returns : tie.Need-returns Inv-loop μ-loop
 returns c =
     let s = c .before .before .before .before in
     let a = s .args in
     let l = c .before .loop in
-    all-chosen (a .t1) (s .pre .0) (a .current-time) (a .allowance) (s .pre .1 .0) (a .visits .now) (a .n) (s .pre .1 .1 .1 .0) (l .m) (l .left) (l .self) (l .items) (l .v) (l .inv .3) (c .loop-test .left) (omega arith)
+    all-chosen (a .t1) (s .pre .0) (a .current-time) (a .allowance) (s .pre .1 .0) (a .visits .now) (a .n) (s .pre .1 .1 .1 .0) (length (a .items .now)) (l .m) (l .left) (l .self) (l .items) (l .v) (l .inv .0) (c .loop-test .left) (l .inv .1)
 
 pub select-spec : {M : Type 1} → statement M
 select-spec =

@@ -7,7 +7,6 @@ use Rattle.send_reliable.specs.Queue.{cell, lane, queueRefusal, freeSpot
 use Rattle.send_reliable.specs.QueueSteps.{placeOf, RowFits}
 use Rattle.send_reliable.proofs.Valid.{CellFree}
 use Rattle.send_reliable.proofs.Queueing.{spot-cell, spot-lane, cell-fits, lane-fits, queue-left, queue-small, queue-sliced}
-use borrow.Author.Needs.{needs}
 use Rattle.send_reliable.proofs.SendChannelReliable.send_message.Statement.{statement}
 use Rattle.send_reliable.proofs.SendChannelReliable.send_message.Tie as tie
 
@@ -33,19 +32,19 @@ row-fits : (c : tie.After-place2) → (let a = c .before .before .before .before
 row-fits c = cell-fits _ (c .before .before .before .before .before .before .before .before .before .before .before .before .before .before .before .pre) _ _ (free-cell c)
 
 lowest-free-requires : tie.Need-lowest-free-requires
-lowest-free-requires c κs = search needs
+lowest-free-requires c κs = let v = c .before .before .before .before .before .before .before .pre in omega (arith, v .settings .slots-most, v .cells-long)
 
 lowest-free-requires-2 : tie.Need-lowest-free-requires-2
-lowest-free-requires-2 c κs = search needs
+lowest-free-requires-2 c κs = let v = c .before .before .before .before .before .before .before .before .before .before .before .pre in omega (arith, v .settings .lanes-most, v .lanes-long)
 
 find-place-requires : tie.Need-find-place-requires
-find-place-requires c κs = search needs
+find-place-requires c κs = let v = c .before .before .before .before .before .before .before .before .before .before .before .before .pre in (v .settings, v .usage-most)
 
 enum-known-place : tie.Need-enum-known-place
-enum-known-place c = search needs
+enum-known-place c = c .match .keys1
 
 enum-known-place-2 : tie.Need-enum-known-place-2
-enum-known-place-2 c = search needs
+enum-known-place-2 c = c .match .keys2
 
 mul-write-bytes : tie.Need-mul-write-bytes
 mul-write-bytes c = omega (arith, free-cell (c .before .before) .low, c .before .before .before .before .before .before .before .before .before .before .before .before .before .before .before .before .before .pre .settings .slots-most)
@@ -77,10 +76,10 @@ add-self-3 : tie.Need-add-self-3
 add-self-3 c = omega (arith, row-fits (c .before .before .before .before .before .before) .ids)
 
 enum-known-place-3 : tie.Need-enum-known-place-3
-enum-known-place-3 c = search needs
+enum-known-place-3 c = c .match .keys3
 
 mul-size : tie.Need-mul-size
-mul-size c = search needs
+mul-size c = omega (arith, c .before .before .before .before .before .before .before .before .before .before .before .before .before .before .before .before .before .pre .settings .pieces-most)
 
 mul-write-bytes-2 : tie.Need-mul-write-bytes-2
 mul-write-bytes-2 c =
@@ -102,14 +101,14 @@ returns : tie.Need-returns
 returns c = queue-left _ (c .before .before .before .before .before .before .before .before .before .before .before .before .before .before .before .before .pre) _ _ _ _ (sym (placed (c .before .before .before)) ∙ ap placeOf (c .before .place .given .1))
 
 same-length : tie.Need-same-length
-same-length c = search needs
+same-length c = search (c .before .before .small .given)
 
 returns-2 : tie.Need-returns-2
 unfolding addSmall
 returns-2 c = queue-small _ (c .before .before .before .before .before .before .before .before .before .before .before .before .before .before .before .before .before .before .before .before .before .pre) _ _ _ _ _ _ (in-cell (c .before .before .before .before .before .before)) (c .before .before .before .write-bytes .ensures .1) (rw (c .new .ensures))
 
 same-length-2 : tie.Need-same-length-2
-same-length-2 c = search needs
+same-length-2 c = search (c .before .before .lanes .given)
 
 returns-3 : tie.Need-returns-3
 returns-3 c = queue-sliced _ (c .before .before .before .before .before .before .before .before .before .before .before .before .before .before .before .before .before .before .before .before .before .before .pre) _ _ _ _ _ _ (in-lane (c .before .before .before .before .before .before .before)) (c .before .before .before .write-bytes2 .ensures .1) (c .with-sliced .ensures)
