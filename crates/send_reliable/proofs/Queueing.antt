@@ -20,12 +20,14 @@ use Rattle.channel.specs.declared.Settings.{Settings}
 use Rattle.channel.specs.declared.Setup.the-variants as setup
 use Rattle.channel.proofs.Good.{good, least-good, stores-room}
 use Rattle.words.proofs.Unique.{numbered-above}
+use Rattle.send_reliable.specs.declared.Row.{Row}
 use Rattle.send_reliable.specs.declared.Piece.{Piece}
 use Rattle.send_reliable.specs.declared.SendChannelReliable.{SendChannelReliable}
 use Rattle.send_reliable.specs.declared.Queue.the-variants as queue
 use Rattle.send_reliable.specs.Sender.{noPiece, newOf, Valid, MadeGives}
 use Rattle.send_reliable.specs.Queue.{queueRefusal, cell, lane, refused, freeIn, freeSpot, spotOf, addSmall, addSliced, QueueGives}
 use Rattle.send_reliable.specs.QueueSteps.{spotIn, RowFits}
+use Rattle.send_reliable.specs.Select.{withChosen}
 use Rattle.send_reliable.proofs.Valid.{new-valid, CellFree, LaneFree, add-small-valid, add-sliced-valid}
 
 -- ---- a new sender
@@ -182,21 +184,12 @@ module _ (s : SendChannelReliable) (v : Valid s) (msg small lanes : List ℕ) wh
 
 -- ---- clearing the pieces of a lane
 
+-- the state with these tables of rows and pieces
+abbrev pub withTables : SendChannelReliable → List Row → List Piece → SendChannelReliable
+withTables s rows pieces = withChosen s (s .latest) (record { left = 0; items = []; rows = rows; pieces = pieces })
+
 abbrev pub withPieces : SendChannelReliable → List Piece → SendChannelReliable
-withPieces s pieces =
-    record {
-      «channel_id» = s .«channel_id»;
-      settings = s .settings;
-      «resend_time» = s .«resend_time»;
-      «next_reliable_message_id» = s .«next_reliable_message_id»;
-      «memory_usage_bytes» = s .«memory_usage_bytes»;
-      latest = s .latest;
-      count = s .count;
-      rows = s .rows;
-      cells = s .cells;
-      lanes = s .lanes;
-      pieces = pieces;
-    }
+withPieces s pieces = withTables s (s .rows) pieces
 
 -- before the first turn
 pub cleared-none : (s : SendChannelReliable) (base many : ℕ) → s ≡ withPieces s (splice base (take 0 (replicate many noPiece)) (s .pieces))

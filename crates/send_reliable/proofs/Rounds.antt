@@ -41,6 +41,7 @@ use Rattle.send_reliable.specs.Sender.{lastSent, kindOf, asRow, ROWS, no
 use Rattle.send_reliable.specs.Select.{Visit, visitsFrom, sentAt, Chosen, visit, unvisited, select, withChosen}
 use Rattle.send_reliable.specs.RoundSteps.{VISIT, visitAt, visitsIn, goes, Selects}
 use Rattle.send_reliable.specs.Round.{Given, entryRefusal, packs, lent, refusalOf, stateAfter, RoundGives}
+use Rattle.send_reliable.proofs.Queueing.{withTables}
 use Rattle.send_reliable.proofs.RoundLists.{getD-each}
 use Rattle.send_reliable.proofs.Visits.{sizeRow, Within, visits-count, rows-room, visits-within}
 use Rattle.send_reliable.proofs.Select.{visit-small, visit-piece, enough, Kept, SmallHere, small-here, PieceHere, piece-here, upTo, upTo-kept, select-valid, select-goes}
@@ -112,10 +113,6 @@ module _ (s : SendChannelReliable) (f : Valid s) (now a : ℕ) (h : s .latest �
         state = ap (λ (u : SendChannelReliable). withChosen u now (chosenBy left items m t)) (w .state) ∙ ap (withChosen s now) c;
       }
 
--- the state with these tables
-abbrev pub put : SendChannelReliable → List Row → List Piece → SendChannelReliable
-put t rows pieces = withChosen t (t .latest) (record { left = 0; items = []; rows = rows; pieces = pieces })
-
 module _ {s : SendChannelReliable} {now a z : ℕ} {visits : List ℕ} {v m left : ℕ} {t : SendChannelReliable} {items : List ℕ} (k : Turn s now a z visits v m left t items) where
   abbrev r : Row
   r = getD (t .rows) (getD visits (VISIT * v) 0) noRow
@@ -130,13 +127,13 @@ module _ {s : SendChannelReliable} {now a z : ℕ} {visits : List ℕ} {v m left
   -- an item more, and these tables
   more : (w : Item) (items' : List ℕ) (left' : ℕ) (rows : List Row) (pieces : List Piece) → items' ≡ splice (ITEM * m) (itemWords w) items
       → visiting s now (chosenBy left items m t) (visitAt visits v) ≡ record { left = left'; items = itemsIn items 0 m ++ (w ∷ []); rows = rows; pieces = pieces }
-      → ChosenTo s now a z (v + 1) (m + 1) left' (put t rows pieces) items'
+      → ChosenTo s now a z (v + 1) (m + 1) left' (withTables t rows pieces) items'
   more w items' left' rows pieces q e =
       record {
         few = omega (arith, k .so-far .few);
         long = ap length q ∙ length-splice (ITEM * m) (itemWords w) items ∙ k .so-far .long;
         chosen = rw (q, items-put items m w (k .room)) (sym e ∙ k .next);
-        state = ap (λ (u : SendChannelReliable). put u rows pieces) (k .so-far .state);
+        state = ap (λ (u : SendChannelReliable). withTables u rows pieces) (k .so-far .state);
       }
 
   -- a small message: b says whether it goes, and `row` is the row that is put for it
@@ -153,7 +150,7 @@ module _ {s : SendChannelReliable} {now a z : ℕ} {visits : List ℕ} {v m left
 
       pub small-chosen : b ≡ true → (row : Row) → row ≡ asRow (r .id) (r .len) (Small cell (sentAt now))
           → (items' : List ℕ) → items' ≡ splice (ITEM * m) (itemWords (record { num = 0; id = r .id .0; index = 0; place = cell * SLICE_SIZE; len = r .len })) items
-          → ChosenTo s now a z (v + 1) (m + 1) (left - r .len) (put t (set (t .rows) (getD visits (VISIT * v) 0) row) (t .pieces)) items'
+          → ChosenTo s now a z (v + 1) (m + 1) (left - r .len) (withTables t (set (t .rows) (getD visits (VISIT * v) 0) row) (t .pieces)) items'
       small-chosen g row er items' q =
           more _ items' _ _ (t .pieces) q (visit-small (s .settings) (s .«resend_time») now (chosenBy left items m t) (visitAt visits v) cell last e ∙ rw (sym eb ∙ g, er))
 
@@ -183,7 +180,7 @@ module _ {s : SendChannelReliable} {now a z : ℕ} {visits : List ℕ} {v m left
           → (items' : List ℕ) (num size : ℕ) → num ≡ piecesOf (r .len) → size ≡ pieceLen (r .len) i
           → items' ≡ splice (ITEM * m) (itemWords (record { num = num; id = r .id .0; index = i; place = l * laneLen (s .settings) + i * SLICE_SIZE; len = size })) items
           → ChosenTo s now a z (v + 1) (m + 1) (left - size)
-          (put t (set (t .rows) (getD visits (VISIT * v) 0) row) (set (t .pieces) (l * PIECES + i) (record { acked = p .acked; sending = sentAt now }))) items'
+          (withTables t (set (t .rows) (getD visits (VISIT * v) 0) row) (set (t .pieces) (l * PIECES + i) (record { acked = p .acked; sending = sentAt now }))) items'
       piece-chosen g row er items' num size en es q =
           more _ items' _ _ _ q (visit-piece (s .settings) (s .«resend_time») now (chosenBy left items m t) (visitAt visits v) l d next e ∙ rw (not-true (p .acked) u, sym eb ∙ g, er, en, es))
 
