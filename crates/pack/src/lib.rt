@@ -38,18 +38,18 @@ pub const ITEM: usize = 5;
 pub const ITEMS: usize = SLOTS + LANES * PIECES;
 
 // Words of the packets' table for each packet.
-pub const PACK: usize = 4;
+const PACK: usize = 4;
 
 // Words of the lent table for each packet: start and length.
-pub const ENTRY: usize = 2;
+const ENTRY: usize = 2;
 
 // Bytes before the messages beside the sequence: type, channel and two-byte count.
 const HEAD: usize = 4;
 
 // A packed round: how many packets it has, and how long they are, encoded.
-pub struct Packed {
-    pub packets: usize,
-    pub bytes: usize,
+struct Packed {
+    packets: usize,
+    bytes: usize,
 }
 
 // Whether a packed round can go.

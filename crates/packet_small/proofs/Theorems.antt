@@ -17,11 +17,9 @@ use Rattle.octets.specs.Writer.{done, left}
 use Rattle.octets.proofs.Exact.{Here, here-both, here-fits, here-taken, exact-byte, ByteSpelt, one-byte}
 use Rattle.octets.proofs.Read.{byte-there}
 use Rattle.octets.proofs.Forms.{var-spelt}
-use Rattle.packet_small.specs.declared.Item.{Item}
-use Rattle.packet_small.specs.declared.Item.the-variants as item
 use Rattle.packet_small.specs.declared.SmallRead.{SmallRead}
 use Rattle.packet_small.specs.declared.SmallRead.the-variants as read
-use Rattle.packet_small.specs.Small.{Message, Told, itemOf, readOf}
+use Rattle.packet_small.specs.Small.{Told, readOf}
 use Rattle.packet_small.specs.Write.{Said, typeByte, headBytes, smallBytes, listed, saidOf, smallOf, putSmall}
 use Rattle.packet_small.specs.Layout.{SmallSaid, SmallSpelt, packet}
 use Rattle.packet_small.specs.Laws.{ReadsAs, Sayable}
@@ -86,18 +84,6 @@ put-read ids seq channel t n src at out c e =
     (length bs, rw (drop-at-splice at bs out (a .room)) w, a .end)
 
 -- ---- an answer of the code says one thing only
-
-itemBack : Res Message → Item
-itemBack (ok m next) = item.Found (record { 0 = m .id }) (m .place) (m .len)
-itemBack (fault e) = item.Cut
-
-item-undone : (r : Item) → itemBack (itemOf r) ≡ r
-unfolding itemBack
-item-undone (item.Found id place len) = refl
-item-undone item.Cut = refl
-
-pub one-item : (a b : Item) → itemOf a ≡ itemOf b → a ≡ b
-one-item = told-apart itemOf itemBack item-undone
 
 readBack : Res Told → SmallRead
 readBack (ok p next) = read.Whole (record { sequence = record { 0 = p .sequence }; «channel_id» = p .channel; count = p .count }) next

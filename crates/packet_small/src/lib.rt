@@ -28,13 +28,13 @@ use words::Refusal;
 use words::Sequence;
 
 // Words of the table for each message.
-pub const RECORD: usize = 3;
+const RECORD: usize = 3;
 
 // Bytes before the messages beside the sequence: type, channel and two-byte count.
 const HEAD: usize = 4;
 
 // A message in the input: its id, where its bytes start, and how many they are; or the input ends early.
-pub enum Item {
+enum Item {
     Found(MessageId, usize, usize),
     Cut,
 }
@@ -78,7 +78,7 @@ fn get_id(s: &[u8], at: usize, ids: bool) -> Got
 }
 
 // The message at a place.
-pub fn get_message(s: &[u8], at: usize, ids: bool) -> Item
+fn get_message(s: &[u8], at: usize, ids: bool) -> Item
     ensures { λ r. ⌜ itemOf r ≡ message ids (now (s .entry)) at ⌝ }
 {
     let Got::Value(id, a) = get_id(s, at, ids) else {
@@ -306,7 +306,7 @@ pub fn write_message(out: &mut [u8], at: usize, ids: bool, id: MessageId, bytes:
 }
 
 // Writes the messages of a table, which were judged, and answers the place after them.
-pub fn write_messages(
+fn write_messages(
     out: &mut [u8],
     from: usize,
     ids: bool,
