@@ -6,7 +6,7 @@ use mathlib.Core.List.{List}
 use lib.ListN.{take, drop}
 use lib.Dec.{eqb}
 use Rattle.words.specs.Choice.{pick}
-use Rattle.arguments.specs.Sizes.{SMALL, LANES, OUT, TABLE}
+use Rattle.memory.specs.Sizes.{SMALL, LANES, OUT, TABLE}
 use Rattle.memory.specs.Memory.{SpanGives}
 use Rattle.send_reliable.specs.Sender as srv
 use Rattle.send_unreliable.specs.Sender as suv

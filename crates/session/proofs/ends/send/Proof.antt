@@ -10,7 +10,7 @@ call-requires : tie.Need-call-requires
 call-requires c κs = search needs
 
 with-senders-requires : tie.Need-with-senders-requires
-with-senders-requires c κs = (c .before .before .before .before .before .before .before .before .before .before .before .before .before .before .before .before .before .before .before .before .before .before .before .before .before .before .before .before .before .before .before .before .pre, c .before .before .before .before .before .before .before .before .before .before .before .before .before .before .call .ensures)
+with-senders-requires c κs = (c .before .before .before .before .before .before .before .before .before .before .before .before .before .before .before .before .before .before .before .before .before .before .before .before .before .before .before .before .before .before .before .before .pre, c .before .before .before .before .before .before .before .before .before .before .before .before .before .before .call .ensures .sound)
 
 same-length : tie.Need-same-length
 same-length c = search needs
