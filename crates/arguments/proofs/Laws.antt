@@ -2,8 +2,8 @@
 use Prim.Native.Nat.{ℕ, suc, _+_, _-_, _≤_, _<_}
 use Prim.Native.Char.{code}
 use mathlib.Core.Path.{_≡_, refl, sym, ap, _∙_}
-use mathlib.Core.Bool.{Bool, true, false}
-use mathlib.Core.List.{List, [], _∷_}
+use mathlib.Core.Bool.{true, false}
+use mathlib.Core.List.{List, _∷_}
 use native.Mathlib.Omega.{arith}
 use native.Mathlib.Numerals.{add-one}
 use lib.ListN.{length, getD, drop, drop-of-length-le}
@@ -18,7 +18,7 @@ use Rattle.script.specs.declared.Word.{Word}
 use Rattle.arguments.specs.Sizes.{MAX, MORE}
 use Rattle.arguments.specs.Arguments.{Leaves, leaves, has, foundFrom, found, mostOf, counted, numberTaken, bytesTaken, wordTaken, argumentTaken, onwardBy, onward, endedOf, furtherTaken, takenBy, begun, calledBy, takenApart}
 use Rattle.arguments.specs.declared.Fault.{Fault}
-use Rattle.arguments.specs.declared.Fault.the-variants.{Missing, OneTooMany}
+use Rattle.arguments.specs.declared.Fault.the-variants.{Missing}
 use Rattle.arguments.specs.declared.Read.{Read}
 use Rattle.arguments.specs.declared.Read.the-variants.{Call, NoCall, Bad}
 use Rattle.arguments.specs.declared.Taken.{Taken}

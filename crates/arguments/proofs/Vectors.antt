@@ -1,8 +1,8 @@
 -- Worked examples of the definitions. Assumes nothing.
-use Prim.Native.Nat.{ℕ, _-_, _^_}
+use Prim.Native.Nat.{_-_, _^_}
 use Prim.Native.String.{String}
 use mathlib.Core.Path.{_≡_, refl}
-use mathlib.Core.List.{List, [], _∷_, _++_, map}
+use mathlib.Core.List.{List, [], _∷_, map}
 use lib.ListN.{replicate}
 use Rattle.words.specs.Lists.{first, all, splice}
 use Rattle.script.specs.Ascii.{ascii}

@@ -17,7 +17,6 @@ use Rattle.script.specs.declared.Bytes.{Bytes}
 use Rattle.script.specs.declared.Bytes.the-variants.{To, NotBytes as no-bytes, TooMany as too-many}
 use Rattle.memory.specs.Sizes.{SMALL, LANE, LANES, OUT, TABLE, MESSAGES, RANGES, WIRE}
 use Rattle.arguments.specs.Sizes.{MAX, CHANNEL, COUNT, MORE}
-use Rattle.arguments.specs.declared.Fault.{Fault}
 use Rattle.arguments.specs.declared.Fault.the-variants.{Missing, NotANumber, TooLarge, NotBytes, TooMany, OneTooMany}
 use Rattle.arguments.specs.declared.Read.{Read}
 use Rattle.arguments.specs.declared.Read.the-variants.{Call, NoCall, Bad}

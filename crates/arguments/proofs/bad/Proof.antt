@@ -1,6 +1,5 @@
 -- `arguments::bad` meets its contract: the words of each answer, behind those of a bad line. Assumes nothing.
 use borrow.Author.Needs.{needs}
-use mathlib.Core.Path.{_≡_, sym, ap, _∙_}
 use Rattle.arguments.specs.Said.{badSaid}
 use Rattle.arguments.proofs.bad.Statement.{statement}
 use Rattle.arguments.proofs.bad.Tie as tie

@@ -1,6 +1,5 @@
 -- `arguments::further` meets its contract. The loop's invariant: those that are left, from here, give what all give. Assumes nothing.
 use borrow.Author.Needs.{needs}
-use native.Mathlib.Omega.{arith}
 use Prim.Native.Nat.{ℕ}
 use mathlib.Core.Path.{_≡_, refl, sym, _∙_}
 use mathlib.Core.List.{List}

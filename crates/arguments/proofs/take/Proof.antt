@@ -1,6 +1,5 @@
 -- `arguments::take` meets its contract. The loop's invariant: the letters that are left, from here, give what the whole form gives. Assumes nothing.
 use borrow.Author.Needs.{needs}
-use native.Mathlib.Omega.{arith}
 use Prim.Native.Nat.{_-_}
 use mathlib.Core.Path.{_≡_, refl, _∙_}
 use lib.ListN.{length, drop}
