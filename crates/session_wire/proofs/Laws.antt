@@ -15,7 +15,7 @@ use Rattle.words.specs.declared.Refusal.{Refusal}
 use Rattle.words.specs.declared.Refusal.the-variants.{BadNumber}
 use Rattle.words.proofs.Unique.{one-refusal}
 use Rattle.octets.specs.Varint.{varLen, varLength}
-use Rattle.octets.specs.Writer.{Outcome, refused, putOf, outcome}
+use Rattle.octets.specs.Writer.{refused, putOf, outcome}
 use Rattle.octets.specs.declared.Put.{Put}
 use Rattle.octets.specs.declared.Put.the-variants.{Refused}
 use Rattle.page.specs.Page.{Sheet, saidRefusal}

@@ -2,7 +2,7 @@
 ghost use mathlib.Core.Path.{_≡_};
 ghost use Rattle.script.specs.Ascii.{ascii};
 ghost use Rattle.arguments.specs.Arguments.{leaves, takenApart};
-ghost use lib.ListN.{length, getD};
+ghost use lib.ListN.{length};
 ghost use Rattle.octets.specs.Reader.{numOf};
 ghost use Rattle.octets.specs.Writer.{putOf, left};
 ghost use Rattle.octets.specs.Varint.{run, varLength};
