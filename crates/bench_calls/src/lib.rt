@@ -1,10 +1,17 @@
 // What bench/ measures: each call is one scenario, on ends of its own. The answers are sums, by which
 // the program there sees that the work was done.
 ghost use mathlib.Core.Path.{_≡_};
+ghost use lib.ListN.{length};
+ghost use Rattle.octets.specs.Writer.{putOf};
+ghost use Rattle.packet.specs.Packet.{decodedOf};
+ghost use Rattle.pack.specs.Round.{wentOf};
 ghost use Rattle.send_reliable.specs.Sender as sr;
 ghost use Rattle.send_unreliable.specs.Sender as su;
 ghost use Rattle.receive_reliable.specs.Receive as rr;
 ghost use Rattle.receive_unreliable.specs.Receive as ru;
+ghost use Rattle.bench_calls.specs.Times.{Times, Filled};
+ghost use Rattle.bench_calls.specs.Packets.{sampleOf, writtenOf, usedOf, WriteGives, ReadGives};
+ghost use Rattle.bench_calls.specs.Ends as ends;
 use channel::Settings;
 use octets::Put;
 use pack::Went;
@@ -29,19 +36,19 @@ use words::SliceIndex;
 // Enough for everything that waits.
 const ALLOWANCE: u64 = 1_000_000;
 
-fn largest() -> Settings {
-    Settings {
-        slots: SLOTS,
-        lanes: LANES,
-        pieces: PIECES,
-        max_memory_usage_bytes: MAX_MEMORY,
-    }
-}
+const LARGEST: Settings = Settings {
+    slots: SLOTS,
+    lanes: LANES,
+    pieces: PIECES,
+    max_memory_usage_bytes: MAX_MEMORY,
+};
 
 // ---- packets
 
 // A packet of each kind: the first messages or ranges of a table, or a piece of n bytes.
-fn sample(kind: u8, count: usize, n: usize) -> Packet {
+fn sample(kind: u8, count: usize, n: usize) -> Packet
+    ensures { λ r. ⌜ r ≡ sampleOf kind count n ⌝ }
+{
     let sequence = Sequence(1000);
     let small = Small {
         sequence,
@@ -67,7 +74,9 @@ fn sample(kind: u8, count: usize, n: usize) -> Packet {
 }
 
 // How many bytes a packet has, or 0 where it was refused.
-fn written(answer: Put) -> usize {
+fn written(answer: Put) -> usize
+    ensures { λ r. ⌜ r ≡ writtenOf (putOf answer) ⌝ }
+{
     let Put::To(n) = answer else {
         return 0;
     };
@@ -82,13 +91,17 @@ pub extern "C" fn bench_write(
     store: &[u8],
     kind: u8,
     count: usize,
-) -> usize {
+) -> usize
+    ensures { λ r. ⌜ WriteGives (sampleOf kind count (length (now (store .entry)))) (now (messages .entry)) (now (ranges .entry)) (now (store .entry)) (now (out .entry)) (now (out .exit)) r ⌝ }
+{
     let packet = sample(kind, count, store.len());
     written(packet::to_bytes(out, packet, messages, ranges, store))
 }
 
 // How many bytes a packet used, or 0 where it was refused.
-fn used(answer: Decoded) -> usize {
+fn used(answer: Decoded) -> usize
+    ensures { λ r. ⌜ r ≡ usedOf (decodedOf answer) ⌝ }
+{
     let Decoded::Whole(_, n) = answer else {
         return 0;
     };
@@ -96,7 +109,9 @@ fn used(answer: Decoded) -> usize {
 }
 
 #[no_mangle]
-pub extern "C" fn bench_read(bytes: &[u8], messages: &mut [u64], ranges: &mut [Range]) -> usize {
+pub extern "C" fn bench_read(bytes: &[u8], messages: &mut [u64], ranges: &mut [Range]) -> usize
+    ensures { λ r. ⌜ ReadGives (now (bytes .entry)) (now (messages .entry)) (now (ranges .entry)) (now (messages .exit)) (now (ranges .exit)) r ⌝ }
+{
     used(packet::from_bytes(bytes, messages, ranges))
 }
 
@@ -109,9 +124,9 @@ fn sr_queued(
     small: &mut [u8],
     lanes: &mut [u8],
 ) -> SendChannelReliable
-    ensures { λ r. ⌜ sr.Valid r ⌝ }
+    ensures { λ r. ⌜ Filled ends.SrNew (ends.SrQueues (now (message .entry))) count (now (small .entry)) (now (lanes .entry)) (now (small .exit)) (now (lanes .exit)) r × sr.Valid r ⌝ }
 {
-    let made = SendChannelReliable::new(0, largest(), 0);
+    let made = SendChannelReliable::new(0, LARGEST, 0);
     let mut state = made.state;
     let mut i = 0;
     while i < count {
@@ -125,7 +140,7 @@ fn sr_queued(
 // Acknowledges the first messages.
 fn sr_acked(first: SendChannelReliable, count: usize) -> SendChannelReliable
     requires { ⌜ sr.Valid first ⌝ }
-    ensures { λ r. ⌜ sr.Valid r ⌝ }
+    ensures { λ r. ⌜ Times ends.SrAcks count first r × sr.Valid r ⌝ }
 {
     let mut state = first;
     let mut i = 0;
@@ -140,7 +155,7 @@ fn sr_acked(first: SendChannelReliable, count: usize) -> SendChannelReliable
 // Acknowledges the first pieces of message 0.
 fn sr_acked_pieces(first: SendChannelReliable, count: usize) -> SendChannelReliable
     requires { ⌜ sr.Valid first ⌝ }
-    ensures { λ r. ⌜ sr.Valid r ⌝ }
+    ensures { λ r. ⌜ Times ends.SrAcksPiece count first r × sr.Valid r ⌝ }
 {
     let mut state = first;
     let mut i = 0;
@@ -159,7 +174,9 @@ pub extern "C" fn bench_sr_messages(
     message: &[u8],
     small: &mut [u8],
     lanes: &mut [u8],
-) -> usize {
+) -> usize
+    ensures { λ r. ⌜ ends.SrMessages count acks (now (message .entry)) (now (small .entry)) (now (lanes .entry)) (now (small .exit)) (now (lanes .exit)) r ⌝ }
+{
     let queued = sr_queued(count, message, small, lanes);
     let state = sr_acked(queued, acks);
     state.memory_usage_bytes()
@@ -171,14 +188,18 @@ pub extern "C" fn bench_sr_pieces(
     message: &[u8],
     small: &mut [u8],
     lanes: &mut [u8],
-) -> usize {
+) -> usize
+    ensures { λ r. ⌜ ends.SrPieces acks (now (message .entry)) (now (small .entry)) (now (lanes .entry)) (now (small .exit)) (now (lanes .exit)) r ⌝ }
+{
     let queued = sr_queued(1, message, small, lanes);
     let state = sr_acked_pieces(queued, acks);
     state.memory_usage_bytes()
 }
 
 // How many packets a round had.
-fn packets_of(answer: Went) -> usize {
+fn packets_of(answer: Went) -> usize
+    ensures { λ r. ⌜ r ≡ ends.packetsOf (wentOf answer) ⌝ }
+{
     let Went::Sent(written) = answer else {
         return 0;
     };
@@ -195,6 +216,7 @@ fn sr_sent(
     table: &mut [u64],
 ) -> usize
     requires { ⌜ sr.Valid first ⌝ }
+    ensures { λ r. ⌜ ends.SrSent (now (small .entry)) (now (lanes .entry)) rounds first (now (out .entry)) (now (table .entry)) (now (out .exit)) (now (table .exit)) r ⌝ }
 {
     let mut state = first;
     let mut packets = 0;
@@ -218,7 +240,9 @@ pub extern "C" fn bench_sr_round(
     lanes: &mut [u8],
     out: &mut [u8],
     table: &mut [u64],
-) -> usize {
+) -> usize
+    ensures { λ r. ⌜ ends.SrRounds count rounds (now (message .entry)) (now (small .entry)) (now (lanes .entry)) (now (out .entry)) (now (table .entry)) (now (small .exit)) (now (lanes .exit)) (now (out .exit)) (now (table .exit)) r ⌝ }
+{
     let state = sr_queued(count, message, small, lanes);
     sr_sent(state, rounds, small, lanes, out, table)
 }
@@ -232,9 +256,9 @@ fn su_queued(
     small: &mut [u8],
     lanes: &mut [u8],
 ) -> SendChannelUnreliable
-    ensures { λ r. ⌜ su.Valid r ⌝ }
+    ensures { λ r. ⌜ Filled ends.SuNew (ends.SuQueues (now (message .entry))) count (now (small .entry)) (now (lanes .entry)) (now (small .exit)) (now (lanes .exit)) r × su.Valid r ⌝ }
 {
-    let made = SendChannelUnreliable::new(0, largest());
+    let made = SendChannelUnreliable::new(0, LARGEST);
     let mut state = made.state;
     let mut i = 0;
     while i < count {
@@ -251,7 +275,9 @@ pub extern "C" fn bench_su_messages(
     message: &[u8],
     small: &mut [u8],
     lanes: &mut [u8],
-) -> usize {
+) -> usize
+    ensures { λ r. ⌜ ends.SuUsage count (now (message .entry)) (now (small .entry)) (now (lanes .entry)) (now (small .exit)) (now (lanes .exit)) r ⌝ }
+{
     let state = su_queued(count, message, small, lanes);
     state.memory_usage_bytes()
 }
@@ -264,7 +290,9 @@ pub extern "C" fn bench_su_round(
     lanes: &mut [u8],
     out: &mut [u8],
     table: &mut [u64],
-) -> usize {
+) -> usize
+    ensures { λ r. ⌜ ends.SuRound count (now (message .entry)) (now (small .entry)) (now (lanes .entry)) (now (out .entry)) (now (table .entry)) (now (small .exit)) (now (lanes .exit)) (now (out .exit)) (now (table .exit)) r ⌝ }
+{
     let state = su_queued(count, message, small, lanes);
     let round = state.get_packets_to_send(Sequence(0), ALLOWANCE, small, lanes, out, table);
     let answer = round.answer;
@@ -280,9 +308,9 @@ fn rr_received(
     small: &mut [u8],
     lanes: &[u8],
 ) -> ReceiveChannelReliable
-    ensures { λ r. ⌜ rr.Valid r ⌝ }
+    ensures { λ r. ⌜ Filled ends.RrNew (ends.RrHears (now (message .entry))) count (now (small .entry)) (now (lanes .entry)) (now (small .exit)) (now (lanes .entry)) r × rr.Valid r ⌝ }
 {
-    let made = ReceiveChannelReliable::new(largest());
+    let made = ReceiveChannelReliable::new(LARGEST);
     let mut state = made.state;
     let mut i = 0;
     while i < count {
@@ -300,9 +328,9 @@ fn rr_collected(
     small: &[u8],
     lanes: &mut [u8],
 ) -> ReceiveChannelReliable
-    ensures { λ r. ⌜ rr.Valid r ⌝ }
+    ensures { λ r. ⌜ Filled ends.RrNew (ends.RrCollects count (now (payload .entry))) count (now (small .entry)) (now (lanes .entry)) (now (small .entry)) (now (lanes .exit)) r × rr.Valid r ⌝ }
 {
-    let made = ReceiveChannelReliable::new(largest());
+    let made = ReceiveChannelReliable::new(LARGEST);
     let mut state = made.state;
     let num = count as u64;
     let mut i = 0;
@@ -318,7 +346,7 @@ fn rr_collected(
 // Takes so many messages out.
 fn rr_taken(first: ReceiveChannelReliable, count: usize) -> ReceiveChannelReliable
     requires { ⌜ rr.Valid first ⌝ }
-    ensures { λ r. ⌜ rr.Valid r ⌝ }
+    ensures { λ r. ⌜ Times ends.RrTakes count first r × rr.Valid r ⌝ }
 {
     let mut state = first;
     let mut i = 0;
@@ -337,7 +365,9 @@ pub extern "C" fn bench_rr_messages(
     message: &[u8],
     small: &mut [u8],
     lanes: &[u8],
-) -> usize {
+) -> usize
+    ensures { λ r. ⌜ ends.RrMessages count takes (now (message .entry)) (now (small .entry)) (now (lanes .entry)) (now (small .exit)) (now (lanes .entry)) r ⌝ }
+{
     let held = rr_received(count, message, small, lanes);
     let state = rr_taken(held, takes);
     state.memory_usage_bytes()
@@ -350,7 +380,9 @@ pub extern "C" fn bench_rr_pieces(
     payload: &[u8],
     small: &[u8],
     lanes: &mut [u8],
-) -> usize {
+) -> usize
+    ensures { λ r. ⌜ ends.RrPieces count takes (now (payload .entry)) (now (small .entry)) (now (lanes .entry)) (now (small .entry)) (now (lanes .exit)) r ⌝ }
+{
     let held = rr_collected(count, payload, small, lanes);
     let state = rr_taken(held, takes);
     state.memory_usage_bytes()
@@ -365,9 +397,9 @@ fn ru_received(
     small: &mut [u8],
     lanes: &[u8],
 ) -> ReceiveChannelUnreliable
-    ensures { λ r. ⌜ ru.Valid r ⌝ }
+    ensures { λ r. ⌜ Filled ends.RuNew (ends.RuHears (now (message .entry))) count (now (small .entry)) (now (lanes .entry)) (now (small .exit)) (now (lanes .entry)) r × ru.Valid r ⌝ }
 {
-    let made = ReceiveChannelUnreliable::new(largest());
+    let made = ReceiveChannelUnreliable::new(LARGEST);
     let mut state = made.state;
     let mut i = 0;
     while i < count {
@@ -385,9 +417,9 @@ fn ru_collected(
     small: &[u8],
     lanes: &mut [u8],
 ) -> ReceiveChannelUnreliable
-    ensures { λ r. ⌜ ru.Valid r ⌝ }
+    ensures { λ r. ⌜ Filled ends.RuNew (ends.RuCollects count (now (payload .entry))) count (now (small .entry)) (now (lanes .entry)) (now (small .entry)) (now (lanes .exit)) r × ru.Valid r ⌝ }
 {
-    let made = ReceiveChannelUnreliable::new(largest());
+    let made = ReceiveChannelUnreliable::new(LARGEST);
     let mut state = made.state;
     let num = count as u64;
     let mut i = 0;
@@ -403,7 +435,7 @@ fn ru_collected(
 // Takes so many messages out.
 fn ru_taken(first: ReceiveChannelUnreliable, count: usize) -> ReceiveChannelUnreliable
     requires { ⌜ ru.Valid first ⌝ }
-    ensures { λ r. ⌜ ru.Valid r ⌝ }
+    ensures { λ r. ⌜ Times ends.RuTakes count first r × ru.Valid r ⌝ }
 {
     let mut state = first;
     let mut i = 0;
@@ -422,7 +454,9 @@ pub extern "C" fn bench_ru_messages(
     message: &[u8],
     small: &mut [u8],
     lanes: &[u8],
-) -> usize {
+) -> usize
+    ensures { λ r. ⌜ ends.RuMessages count takes (now (message .entry)) (now (small .entry)) (now (lanes .entry)) (now (small .exit)) (now (lanes .entry)) r ⌝ }
+{
     let held = ru_received(count, message, small, lanes);
     let state = ru_taken(held, takes);
     state.memory_usage_bytes()
@@ -435,7 +469,9 @@ pub extern "C" fn bench_ru_pieces(
     payload: &[u8],
     small: &[u8],
     lanes: &mut [u8],
-) -> usize {
+) -> usize
+    ensures { λ r. ⌜ ends.RuPieces count takes (now (payload .entry)) (now (small .entry)) (now (lanes .entry)) (now (small .entry)) (now (lanes .exit)) r ⌝ }
+{
     let held = ru_collected(count, payload, small, lanes);
     let state = ru_taken(held, takes);
     state.memory_usage_bytes()

@@ -1,29 +1,28 @@
--- `bench_calls::su_queued` meets its contract. The loop keeps the sender valid and the stores as long as they were. Assumes nothing.
-use Prim.Native.Nat.{_≤_, _-_}
+-- `bench_calls::su_queued` meets its contract: each turn is one message more in the sender. Assumes nothing.
+use Prim.Native.Nat.{_-_}
 use mathlib.Core.Path.{_≡_, refl}
 use native.Mathlib.Omega.{arith}
-use lib.ListN.{length}
 use Rattle.send_unreliable.specs.Sender.{Valid}
+use Rattle.bench_calls.specs.Times.{held}
+use Rattle.bench_calls.specs.Ends.{SuQueues}
+use Rattle.bench_calls.proofs.Laws.{Turns, begins, goes-on, ends, Keeps, left}
 use Rattle.bench_calls.proofs.su_queued.Statement.{statement}
 use Rattle.bench_calls.proofs.su_queued.Tie as tie
 
 abbrev Inv-loop : tie.InvT-loop
-Inv-loop count message small₀ lanes₀ state₀ i₀ small lanes state i = (i ≤ count) × (length small ≡ length small₀) × (length lanes ≡ length lanes₀) × Valid state
+Inv-loop count message small₀ lanes₀ state₀ i₀ small lanes state i = Turns (Keeps Valid (held state₀ small₀ lanes₀)) (SuQueues message) count (held state₀ small₀ lanes₀) (held state small lanes) i
 
 abbrev μ-loop : tie.MeasureT-loop
 μ-loop count message small₀ lanes₀ state₀ i₀ small lanes state i = count - i
-
-largest-requires : tie.Need-largest-requires Inv-loop μ-loop
-largest-requires c κs = tt
 
 new-requires : tie.Need-new-requires Inv-loop μ-loop
 new-requires c κs = tt
 
 loop-holds : tie.Need-loop-holds Inv-loop μ-loop
-loop-holds c = (omega arith, refl, refl, c .before .new .ensures .valid)
+loop-holds c = begins (record { small-long = refl; lanes-long = refl; valid = c .before .new .ensures .valid })
 
 send-message-requires : tie.Need-send-message-requires Inv-loop μ-loop
-send-message-requires c κs = c .before .before .before .loop .inv .3
+send-message-requires c κs = c .before .before .before .loop .inv .keeps .valid
 
 add-i : tie.Need-add-i Inv-loop μ-loop
 add-i c = omega arith
@@ -32,7 +31,11 @@ loop-less : tie.Need-loop-less Inv-loop μ-loop
 loop-less c = omega arith
 
 loop-again : tie.Need-loop-again Inv-loop μ-loop
-loop-again c = (omega arith, omega arith, omega arith, c .before .before .before .before .before .send-message .ensures .valid)
+loop-again c =
+    let call = c .before .before .before .before .before .send-message in
+    goes-on (c .before .before .before .before .before .before .before .before .before .loop .inv) (omega arith)
+    (record { small-long = omega arith; lanes-long = omega arith; valid = call .ensures .valid })
+    (left (call .result) (call .ensures))
 
 same-length : tie.Need-same-length Inv-loop μ-loop
 same-length c = omega arith
@@ -41,7 +44,10 @@ same-length-2 : tie.Need-same-length-2 Inv-loop μ-loop
 same-length-2 c = omega arith
 
 returns : tie.Need-returns Inv-loop μ-loop
-returns c = c .before .loop .inv .3
+returns c =
+    let made = c .before .before .before .new in
+    let turns = c .before .loop .inv in
+    (record { new = made .result .state; made = left (made .result) (made .ensures); fills = ends turns (omega arith) }, turns .keeps .valid)
 
 pub su-queued-spec : {M : Type 1} → statement M
 su-queued-spec =
@@ -49,7 +55,6 @@ su-queued-spec =
     (tie.spec
     Inv-loop
     μ-loop
-    largest-requires
     new-requires
     loop-holds
     send-message-requires

@@ -1,0 +1,3 @@
+pub mod Times
+pub mod Packets
+pub mod Ends
