@@ -28,7 +28,7 @@ use words::Refusal;
 use words::Sequence;
 
 // Words of the table for each message.
-const RECORD: usize = 3;
+pub const RECORD: usize = 3;
 
 // Bytes before the messages beside the sequence: type, channel and two-byte count.
 const HEAD: usize = 4;
