@@ -73,14 +73,12 @@ same-length-7 c = c .before .page .given
 
 returns : tie.Need-returns
 returns c =
-    let a = c .before .before .before .before .before .before .before .before .before .before .before .before .before .before in
-    let p = a .before .before .before .before .before .before .before .before .parts-of .ensures in
     record {
-      sound = a .answer .ensures;
-      in-small = keeps _ _ _ (a .answer .last .1 .1 .1 .1 .1 .0) _ (p .small) (c .before .before .before .before .before .before .before .before .before .before .before .before .before .small .given .0) (c .before .before .before .before .before .before .before .before .before .before .before .before .before .small .given .1);
-      in-lanes = keeps _ _ _ (a .answer .last .1 .1 .1 .1 .1 .1 .0) _ (p .lanes) (c .before .before .before .before .before .before .before .before .before .before .before .lanes .given .0) (c .before .before .before .before .before .before .before .before .before .before .before .lanes .given .1);
-      in-out = keeps _ _ _ (a .answer .last .1 .1 .1 .1 .1 .1 .1 .0) _ (p .out) (c .before .before .before .before .before .before .before .before .before .out .given .0) (c .before .before .before .before .before .before .before .before .before .out .given .1);
-      in-table = keeps _ _ _ (a .answer .last .1 .1 .1 .1 .1 .1 .1 .1 .0) _ (p .table) (c .before .before .before .before .before .before .before .table .given .0) (c .before .before .before .before .before .before .before .table .given .1);
+      sound = c .before .before .before .before .before .before .before .before .before .before .before .before .before .before .answer .ensures;
+      in-small = keeps _ _ _ (c .before .before .before .before .before .before .before .before .before .before .before .before .before .before .answer .last .1 .1 .1 .1 .1 .0) _ (c .before .before .before .before .before .before .before .before .before .before .before .before .before .before .before .before .before .before .before .before .before .before .parts-of .ensures .small) (c .before .before .before .before .before .before .before .before .before .before .before .before .before .small .given .0) (c .before .before .before .before .before .before .before .before .before .before .before .before .before .small .given .1);
+      in-lanes = keeps _ _ _ (c .before .before .before .before .before .before .before .before .before .before .before .before .before .before .answer .last .1 .1 .1 .1 .1 .1 .0) _ (c .before .before .before .before .before .before .before .before .before .before .before .before .before .before .before .before .before .before .before .before .before .before .parts-of .ensures .lanes) (c .before .before .before .before .before .before .before .before .before .before .before .lanes .given .0) (c .before .before .before .before .before .before .before .before .before .before .before .lanes .given .1);
+      in-out = keeps _ _ _ (c .before .before .before .before .before .before .before .before .before .before .before .before .before .before .answer .last .1 .1 .1 .1 .1 .1 .1 .0) _ (c .before .before .before .before .before .before .before .before .before .before .before .before .before .before .before .before .before .before .before .before .before .before .parts-of .ensures .out) (c .before .before .before .before .before .before .before .before .before .out .given .0) (c .before .before .before .before .before .before .before .before .before .out .given .1);
+      in-table = keeps _ _ _ (c .before .before .before .before .before .before .before .before .before .before .before .before .before .before .answer .last .1 .1 .1 .1 .1 .1 .1 .1 .0) _ (c .before .before .before .before .before .before .before .before .before .before .before .before .before .before .before .before .before .before .before .before .before .before .parts-of .ensures .table) (c .before .before .before .before .before .before .before .table .given .0) (c .before .before .before .before .before .before .before .table .given .1);
     }
 
 pub call-spec : {M : Type 1} → statement M
