@@ -121,6 +121,7 @@ pub fn read(reliable: bool, line: &[u8], from: usize, numbers: &mut [u64], bytes
     )
 }
 
+// The number of `digest`, which sees all that a sender has.
 const DIGEST: usize = 6;
 
 // How many packets the last round of a sender left.
@@ -133,7 +134,7 @@ pub fn packets(s: Senders, reliable: bool) -> usize
     s.su_lent.packets
 }
 
-// Makes a call on one of the senders, with its part of the memory of all ends, and answers it.
+// Makes a call on one of the senders and answers it. Of the memory of all ends it is lent what it sees.
 pub fn call(
     s: Senders,
     reliable: bool,
@@ -178,7 +179,7 @@ pub fn call(
     )
 }
 
-// What a call sees: what is lent, but a digest is of all.
+// How much a call sees: what is lent, but a digest is of all.
 fn seen(s: Senders, reliable: bool, k: usize) -> Lent
     ensures { λ r. ⌜ r ≡ seenBy s reliable k ⌝ }
 {
@@ -279,7 +280,7 @@ fn made(
     }
 }
 
-// Makes a call that needs no memory.
+// Makes a call that needs no memory. 8 and 9 stand in the reliable sender's list alone.
 fn plain(s: Senders, reliable: bool, k: usize, numbers: &[u64]) -> Done
     requires { ⌜ Sound s ⌝ }
     ensures { λ r. ⌜ Sound (r .senders) ⌝ }
