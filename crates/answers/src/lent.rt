@@ -1,9 +1,7 @@
 // What is alike at the channel ends: how much of their memory is lent, and their settings.
 ghost use mathlib.Core.Path.{_≡_};
-ghost use Rattle.page.specs.Page.{sheet};
-ghost use Rattle.answers.specs.Lent.{settingsAt, wholeSettings, setupSaid};
+ghost use Rattle.answers.specs.Lent.{settingsAt, wholeSettings};
 use channel::Settings;
-use channel::Setup;
 
 // How many bytes of the two stores of a channel end are lent.
 pub struct Stores {
@@ -34,15 +32,5 @@ pub fn whole() -> Settings
         lanes: words::LANES,
         pieces: words::PIECES,
         max_memory_usage_bytes: words::MAX_MEMORY,
-    }
-}
-
-// Says what a set-up answered.
-pub fn setup(page: &mut [u8], at: usize, s: Setup) -> usize
-    ensures { λ r. ⌜ sheet (now (page .exit)) r ≡ setupSaid s (sheet (now (page .entry)) at) ⌝ }
-{
-    match s {
-        Setup::Refused(e) => page::refusal(page, at, e),
-        Setup::Ready => page::text(page, at, b"ready"),
     }
 }

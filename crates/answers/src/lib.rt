@@ -1,7 +1,6 @@
 // Answers in words that more than one end gives.
 pub mod lent;
 pub mod packets;
-pub mod sending;
 
 // The k-th call of an end, in the n-th line of a script; its answer goes to a place of the page.
 pub struct Call {

@@ -82,7 +82,7 @@ pub fn text(page: &mut [u8], at: usize, s: &[u8]) -> usize
 }
 
 // Says a number.
-pub fn number(page: &mut [u8], at: usize, v: u64) -> usize
+fn number(page: &mut [u8], at: usize, v: u64) -> usize
     ensures { λ r. ⌜ sheet (now (page .exit)) r ≡ saidNumber v (sheet (now (page .entry)) at) ⌝ }
 {
     let a = room(page, at, DIGITS);
