@@ -1,7 +1,10 @@
 // Calls on the two receivers, the ordered reliable one and the unreliable one.
+ghost use mathlib.Core.Path.{_≡_};
 ghost use Prim.Native.Nat.{_≤_};
+ghost use Rattle.arguments.specs.Arguments.{leaves, takenApart};
 ghost use Rattle.receive_reliable.specs.Receive as rrv;
 ghost use Rattle.receive_unreliable.specs.Receive as ruv;
+ghost use Rattle.session_receive.specs.Calls.{callsOf};
 ghost use Rattle.session_receive.specs.Sound.{Sound, Whole};
 use answers::Call;
 use answers::lent;
@@ -100,7 +103,9 @@ fn whole() -> Stores
 }
 
 // The calls, in the order of `called`. Only the unreliable receiver discards.
-pub fn read(reliable: bool, s: &[u8], at: usize, numbers: &mut [u64], bytes: &mut [u8]) -> Read {
+pub fn read(reliable: bool, s: &[u8], at: usize, numbers: &mut [u64], bytes: &mut [u8]) -> Read
+    ensures { λ r. ⌜ leaves r (now (numbers .exit)) (now (bytes .exit)) ≡ takenApart (callsOf reliable) (now (s .entry)) at (now (numbers .entry)) (now (bytes .entry)) ⌝ }
+{
     if reliable {
         return arguments::taken_apart(
             b"new nnnn message nb slice nnnb look - take - lend SL digest - usage - packet b deliver n",
