@@ -1210,8 +1210,9 @@ impl Generator {
     // ---- bad lines, blank lines and comments
 
     fn bad(&mut self) {
-        let i = self.random.below(self.lines.len() as u64) as usize;
-        let mut line = self.lines[i].clone().into_bytes();
+        // a line that was there, or at first an empty one
+        let i = self.random.below(self.lines.len().max(1) as u64) as usize;
+        let mut line = self.lines.get(i).cloned().unwrap_or_default().into_bytes();
         let n = line.len() as u64;
         let r = &mut self.random;
         match r.below(9) {
