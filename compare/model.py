@@ -1,9 +1,8 @@
 #!/usr/bin/env python3
-"""Document 01, with what has landed of document 02, as a plain model that answers scripts (docs/SCRIPT.md): a third voice beside the program
+"""Document 01 as a plain model that answers scripts (docs/SCRIPT.md): a third voice beside the program
 and renet, to tell which of two is at fault. It follows the document's words, not anybody's code. With the
 argument `limits` it says what the program `limits` must print."""
 import re
-import struct
 import sys
 
 SLICE = 1200
@@ -12,7 +11,7 @@ TOP = 1 << 64
 MOD = (1 << 56) - 5
 NAMES = """BufferTooShort InvalidNumSlices SliceSizeAboveLimit EmptySlice InvalidAckRange InvalidPacketType
 ReliableChannelMaxMemoryReached InvalidSliceMessage BadSettings BadStore TableFull TooLong BadNumber ClockBack
-NoRoom WrongKind BadIndex TooFarAhead InvalidSliceIndex BadSample NoSuchChannel BadPlan BadRecord""".split()
+NoRoom WrongKind BadIndex""".split()
 
 
 class Bad(Exception):
@@ -198,10 +197,10 @@ def read_packet(s):
     if kind in (2, 3):
         channel, ident, index, num = r.u8(), r.varint(), r.varint(), r.varint()
         refuse(2, num == 0 or num > 1_000_000)
-        refuse(19, index >= num)
         place, n = r.run()
-        refuse(4, n == 0)
-        refuse(3, n > SLICE)
+        if kind == 2:
+            refuse(4, n == 0)
+            refuse(3, n > SLICE)
         return kind, (seq, channel, ident, index, num, place, n), [], r.at
     last, less, remaining = r.varint(), r.varint(), r.varint()
     refuse(5, last < less)
@@ -244,15 +243,6 @@ class Lent:
         return digest(self.mem)
 
 
-def ack_bytes(seq, ranges):
-    start, end = ranges[-1]
-    s = b"\4" + varint(seq) + varint(end - 1) + varint(end - 1 - start) + varint(len(ranges) - 1)
-    for a, e in reversed(ranges[:-1]):
-        s += varint(start - e - 1) + varint(e - a - 1)
-        start = a
-    return s
-
-
 class Wire:
     def __init__(self):
         word = 0xa5a5a5a5a5a5a5a5
@@ -287,10 +277,6 @@ class Wire:
     def slice(self, kind, seq, channel, ident, index, num, place, n, store):
         refuse(10, place + n > len(store))
         refuse(13, max(seq, ident, index, num) >= LIMIT)
-        refuse(2, num == 0 or num > 1_000_000)
-        refuse(19, index >= num)
-        refuse(4, n == 0)
-        refuse(3, n > SLICE)
         s = bytes([kind]) + varint(seq) + bytes([channel]) + varint(ident) + varint(index) + varint(num)
         return self.write(s + varint(n) + store[place:place + n])
 
@@ -300,7 +286,12 @@ class Wire:
         refuse(13, seq >= LIMIT or any(a >= LIMIT or e > LIMIT for a, e in ranges))
         refuse(5, not ranges or any(e <= a for a, e in ranges))
         refuse(5, any(ranges[i + 1][0] <= ranges[i][1] for i in range(count - 1)))
-        return self.write(ack_bytes(seq, ranges))
+        start, end = ranges[-1]
+        s = b"\4" + varint(seq) + varint(end - 1) + varint(end - 1 - start) + varint(count - 1)
+        for a, e in reversed(ranges[:-1]):
+            s += varint(start - e - 1) + varint(e - a - 1)
+            start = a
+        return self.write(s)
 
     def call(self, call, a):
         if call == "read":
@@ -461,7 +452,6 @@ class Sender(End):
                 s += (varint(ident) if ids else b"") + varint(len(m)) + m
             packets.append(s)
             group.clear()
-        # a packet is closed only if it holds a message (document 02, [4]), and every message packs to a byte at least
         # sequences from 2^62 on can't be written, so the packets are counted first
         count, full = 0, 0
         for item in items:
@@ -469,7 +459,7 @@ class Sender(End):
                 count += 1
                 continue
             n = len(item[1]) + len(varint(len(item[1]))) + (len(varint(item[0])) if ids else 0)
-            if full and full + n > SLICE:
+            if full + n > SLICE:
                 count, full = count + 1, 0
             full += n
         count += any(len(i) == 2 for i in items)
@@ -483,7 +473,7 @@ class Sender(End):
                 continue
             ident, m = item
             n = len(m) + len(varint(len(m))) + (len(varint(ident)) if ids else 0)
-            if group and size + n > SLICE:
+            if size + n > SLICE:
                 close()
                 size = 0
             size += n
@@ -614,9 +604,6 @@ class SendReliable(Sender):
             ident, index = a.number(), a.number()
             a.end()
             return self.ack(ident, index)
-        if call == "oldest":
-            a.end()
-            return f"oldest {min(self.waiting, default=self.next)}"
         return self.common(call, a)
 
 
@@ -685,9 +672,6 @@ class Reassembly:
             return False
         self.parts[index] = s
         return True
-
-    def missing(self):
-        return sum(i not in self.parts for i in range(self.num))
 
     def whole(self):
         if len(self.parts) == self.num:
@@ -781,11 +765,11 @@ class ReceiveReliable(Receiver):
             return "ignored"
         refuse(8, num == 0)
         refuse(12, num > self.pieces)
-        _, r = self.slice_place(ident, num, index, s, lambda: refuse(7))
+        self.slice_place(ident, num, index, s, lambda: refuse(7))
         whole = self.collect(ident, index, s)
         if whole:
             self.whole[ident] = whole
-        return f"taken, {r.missing()} of {num} missing"
+        return "taken"
 
     def call(self, call, a, sender, wire):
         if call == "new":
@@ -847,8 +831,7 @@ class ReceiveUnreliable(Receiver):
         refuse(14, time < self.latest)
         refuse(8, num == 0)
         refuse(12, num > self.pieces)
-        found = self.slice_place(ident, num, index, s, lambda: None)
-        if found is None:
+        if self.slice_place(ident, num, index, s, lambda: None) is None:
             return "dropped"
         self.latest = time
         whole = self.collect(ident, index, s)
@@ -856,7 +839,7 @@ class ReceiveUnreliable(Receiver):
         if whole:
             del self.touched[ident]
             self.queue.append(whole)
-        return f"taken, {found[1].missing()} of {num} missing"
+        return "taken"
 
     def discard(self, time):
         refuse(14, time < self.latest)
@@ -935,7 +918,7 @@ class Constructor:
             if self.r.add(index, s):
                 self.lane.put(index * SLICE, s)
             m = self.r.whole()
-            return f"more, {self.r.missing()} missing" if m is None else f"whole {len(m)} {spell(m)}"
+            return "more" if m is None else f"whole {len(m)} {spell(m)}"
         if call == "lend":
             n = a.number(48000)
             a.end()
@@ -947,212 +930,8 @@ class Constructor:
         raise Bad("no such call")
 
 
-class Acks:
-    """Document 02, [12], by the set of what is named: ranges are its runs."""
-
-    def __init__(self, wire):
-        self.wire, self.named, self.dropped = wire, set(), False
-
-    def ranges(self):
-        rest = sorted(self.named)
-        starts = [v for v in rest if v - 1 not in self.named]
-        ends = [v + 1 for v in rest if v + 1 not in self.named]
-        return list(zip(starts, ends))
-
-    def add(self, sequence):
-        refuse(13, sequence >= LIMIT)
-        self.named.add(sequence)
-        ranges = self.ranges()
-        if len(ranges) > 64:
-            self.named -= set(range(*ranges[0]))
-            self.dropped = True
-        return "added"
-
-    def packet(self, sequence, place):
-        refuse(13, sequence >= LIMIT)
-        refuse(5, not self.named)
-        s = ack_bytes(sequence, self.ranges())
-        self.wire.put_at(place, s)
-        return f"to {place + len(s)} {spell(s)}"
-
-    def call(self, call, a):
-        if call in ("add", "named", "packet"):
-            args = [a.number() for _ in range(2 if call == "packet" else 1)]
-            a.end()
-            if call == "named":
-                refuse(13, args[0] >= LIMIT)
-                return "yes" if args[0] in self.named else "no"
-            return getattr(self, call)(*args)
-        if call in ("new", "count", "dropped"):
-            a.end()
-            if call == "new":
-                self.named, self.dropped = set(), False
-                return "ready"
-            return f"ranges {len(self.ranges())}" if call == "count" else ("yes" if self.dropped else "no")
-        raise Bad("no such call")
-
-
-class DelayMeter:
-    """Request [5]: RFC 6298, section 2. Python's floats are IEEE doubles, and each operation rounds once."""
-
-    def __init__(self, grain=0):
-        self.grain, self.srtt, self.rttvar = grain, None, None
-
-    def sample(self, r):
-        if self.srtt is None:
-            self.srtt = float(r)
-            self.rttvar = r / 2
-            return
-        alpha, beta = 1 / 8, 1 / 4
-        difference = self.srtt - r
-        if difference < 0:
-            difference = -difference
-        self.rttvar = (1 - beta) * self.rttvar + beta * difference
-        self.srtt = (1 - alpha) * self.srtt + alpha * r
-
-    def timeout(self):
-        if self.srtt is None:
-            return 1e6
-        return max(1e6, self.srtt + max(float(self.grain), 4 * self.rttvar))
-
-    def call(self, call, a):
-        def said(x):
-            return f"{int(x)} bits {struct.pack('>d', x).hex()}"
-        if call in ("new", "sample", "grain"):
-            n = a.number()
-            a.end()
-            refuse(20, call == "sample" and n > 2 ** 32)
-            refuse(9, call != "sample" and n > 1_000_000)
-            if call == "new":
-                self.__init__(n)
-                return "ready"
-            if call == "sample":
-                self.sample(n)
-                return "taken"
-            self.grain = n
-            return "set"
-        if call == "read":
-            a.end()
-            if self.srtt is None:
-                return "unknown"
-            return f"smoothed {said(self.srtt)}, variation {said(self.rttvar)}"
-        if call == "timeout":
-            a.end()
-            return f"timeout {said(self.timeout())}"
-        raise Bad("no such call")
-
-
-class Window:
-    """When a message may be queued: the rule, of the lengths of all messages that were ever counted."""
-    def __init__(self):
-        self.fresh((64, 4, 40, 1_000_000))
-
-    def fresh(self, settings):
-        self.settings, self.lens, self.named = settings, [], 0
-
-    def judge(self, oldest, n):
-        slots, lanes, pieces, memory = self.settings
-        refuse(13, oldest < self.named or oldest > len(self.lens) or len(self.lens) >= LIMIT)
-        refuse(12, n > pieces * SLICE)
-        under_way = self.lens[oldest:] + [n]
-        small = [m for m in under_way if m <= SLICE]
-        sliced = [m for m in under_way if m > SLICE]
-        refuse(7, sum(small) + sum(SLICE * -(-m // SLICE) for m in sliced) > memory)
-        refuse(11, len(small) > slots or len(sliced) > lanes)
-
-    def call(self, call, a):
-        if call == "new":
-            slots, lanes, pieces, memory = s = settings(a)
-            a.end()
-            refuse(9, not (1 <= slots <= 64 and 1 <= lanes <= 4 and 1 <= pieces <= 40 and memory <= 1_000_000))
-            self.fresh(s)
-            return "ready"
-        if call in ("can", "queued"):
-            oldest, n = a.number(), a.number()
-            a.end()
-            self.judge(oldest, n)
-            if call == "can":
-                return "yes"
-            self.lens.append(n)
-            self.named = oldest
-            return "counted"
-        raise Bad("no such call")
-
-
-class Record:
-    """Request [10]: blocks of a count, count + 1 offsets and the bytes, in the memory of the wire."""
-
-    def __init__(self, wire):
-        self.wire = wire
-
-    @staticmethod
-    def block(s, at):
-        """The ends of a whole block's messages and the place of their bytes; or how it isn't one."""
-        if at >= len(s):
-            return "the end"
-        fields = []
-        while not fields or len(fields) < fields[0] + 2:
-            place = at + 4 * len(fields)
-            if place + 4 > len(s):
-                return "torn"
-            v = int.from_bytes(s[place:place + 4], "little")
-            if not (1 <= v <= 64 if not fields else v == 0 if len(fields) == 1 else v >= fields[-1]):
-                return f"refused 23 BadRecord at {place}"
-            fields.append(v)
-        place = at + 4 * len(fields)
-        return (fields[2:], place) if place + fields[-1] <= len(s) else "torn"
-
-    def read(self, s):
-        at, blocks, rows = 0, 0, []
-        while not isinstance(found := self.block(s, at), str):
-            ends, place = found
-            rows += [(at, place + a, b - a) for a, b in zip([0] + ends, ends)]
-            blocks, at = blocks + 1, place + ends[-1]
-        refuse(11, len(rows) > self.wire.messages.len // 3)
-        self.wire.messages.put(0, [v for row in rows for v in row])
-        ending = {"the end": "none torn", "torn": f"torn at {at}"}.get(found, found)
-        told = [f"blocks {blocks} messages {len(rows)}; {ending}"]
-        return ", ".join(told + [f"block {b} at {p} length {n} {spell(s[p:p + n])}" for b, p, n in rows])
-
-    def write(self, place, count, store, table):
-        refuse(10, count > len(table) // 3)
-        rows = [table[3 * i + 1:3 * i + 3] for i in range(count)]
-        refuse(10, any(p + n > len(store) for p, n in rows))
-        ends = [sum(n for _, n in rows[:i]) for i in range(count + 1)]
-        refuse(23, not 1 <= count <= 64 or ends[-1] >= 2 ** 32)
-        s = b"".join(v.to_bytes(4, "little") for v in [count] + ends) + b"".join(store[p:p + n] for p, n in rows)
-        refuse(15, place + len(s) > self.wire.out.len)
-        self.wire.out.put(place, s)
-        return f"to {place + len(s)} {spell(s)}"
-
-    def call(self, call, a):
-        if call == "write":
-            args = a.number(), a.number(), a.bytes(), a.table()
-            a.end()
-            return self.write(*args)
-        if call == "read":
-            s = a.bytes()
-            a.end()
-            return self.read(s)
-        if call == "cut":
-            n = a.number()
-            a.end()
-            return self.read(bytes(self.wire.out.mem[:min(n, self.wire.out.len)]))
-        if call == "block":
-            s, at = a.bytes(), a.number()
-            a.end()
-            found = self.block(s, at)
-            if isinstance(found, str):
-                return found
-            ends, place = found
-            return f"messages {len(ends)} offsets at {at + 4} bytes at {place} next {place + ends[-1]}"
-        raise Bad("no such call")
-
-
 def run(script, out):
-    wire = Wire()
-    alone = {b"wire": wire, b"sc": Constructor(), b"meter": DelayMeter(), b"acks": Acks(wire),
-             b"window": Window(), b"record": Record(wire)}
+    wire, sc = Wire(), Constructor()
     ends = {b"sr": SendReliable(wire), b"su": SendUnreliable(wire), b"rr": ReceiveReliable(),
             b"ru": ReceiveUnreliable()}
     senders = {b"rr": ends[b"sr"], b"ru": ends[b"su"]}
@@ -1166,12 +945,12 @@ def run(script, out):
         try:
             if len(line) > 4096:
                 raise Bad("too long")
-            if words[0] not in (*alone, *ends):
+            if words[0] not in (b"wire", b"sc", *ends):
                 raise Bad("no such end")
             call = words[1].decode("latin-1") if len(words) > 1 else ""
             a = Args(words[2:])
-            if words[0] in alone:
-                answers = [guarded(alone[words[0]].call, call, a)]
+            if words[0] in (b"wire", b"sc"):
+                answers = [guarded((wire if words[0] == b"wire" else sc).call, call, a)]
             else:
                 end = ends[words[0]]
                 if call == "usage":

@@ -5,7 +5,7 @@ use bytes::Bytes;
 use octets::{Octets, OctetsMut};
 use renet::channel::reliable::{ReceiveChannelReliable, SendChannelReliable};
 use renet::channel::unreliable::{ReceiveChannelUnreliable, SendChannelUnreliable};
-use renet::packet::{without_empty, Packet, Slice};
+use renet::packet::{Packet, Slice};
 use std::hint::black_box;
 use std::time::Duration;
 
@@ -110,17 +110,6 @@ fn encode(packets: &[Packet], out: &mut [u8], table: &mut [u64]) -> usize {
         at += n;
     }
     packets.len()
-}
-
-/// The packets that a round wrote, read by renet and written again without those that it closed empty.
-pub fn held(packets: usize, out: &mut [u8], table: &mut [u64]) -> usize {
-    let read = |i: usize| {
-        let start = table[2 * i] as usize;
-        let mut b = Octets::with_slice(&out[start..start + table[2 * i + 1] as usize]);
-        Packet::from_bytes(&mut b).unwrap()
-    };
-    let (held, _) = without_empty((0..packets).map(read).collect());
-    encode(&held, out, table)
 }
 
 /// With no resend time every round sends all that waits.

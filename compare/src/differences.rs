@@ -1,14 +1,13 @@
-//! What renet itself does in the calls that it can't be followed in, beside what documents 01 and 02 answer. Each case is a
+//! What renet itself does in the calls that it can't be followed in, beside what document 01 answers. Each case is a
 //! script and the same calls on renet, with no layer between.
 
 use crate::session::Session;
 use bytes::Bytes;
-use octets::{Octets, OctetsMut};
+use octets::OctetsMut;
 use renet::channel::reliable::{ReceiveChannelReliable, SendChannelReliable};
 use renet::channel::unreliable::ReceiveChannelUnreliable;
 use renet::channel::SliceConstructor;
 use renet::packet::{Packet, Slice};
-use renet::remote_connection::RenetClient;
 use std::panic::catch_unwind;
 use std::time::Duration;
 
@@ -57,70 +56,7 @@ fn ack(sequence: u64, ranges: &[(u64, u64)]) -> Packet {
     }
 }
 
-fn read(s: &[u8]) -> String {
-    format!("{:?}", Packet::from_bytes(&mut Octets::with_slice(s)).map(|p| payload_len(&p)))
-}
-
-/// The length of a piece's payload.
-fn payload_len(packet: &Packet) -> Option<usize> {
-    match packet {
-        Packet::ReliableSlice { slice, .. } | Packet::UnreliableSlice { slice, .. } => Some(slice.payload.len()),
-        _ => None,
-    }
-}
-
-fn piece(reliable: bool, slice: Slice) -> Packet {
-    let (sequence, channel_id) = (0, 0);
-    match reliable {
-        true => Packet::ReliableSlice {
-            sequence,
-            channel_id,
-            slice,
-        },
-        false => Packet::UnreliableSlice {
-            sequence,
-            channel_id,
-            slice,
-        },
-    }
-}
-
 const CASES: &[Case] = &[
-    Case {
-        what: "a piece with a wild index is read",
-        script: "wire read 0200000002020141",
-        renet: || read(&[2, 0, 0, 0, 2, 2, 1, 0x41]),
-    },
-    Case {
-        what: "an unreliable piece with an empty payload is read",
-        script: "wire read 03000000000100",
-        renet: || read(&[3, 0, 0, 0, 0, 1, 0]),
-    },
-    Case {
-        what: "an unreliable piece with a payload above 1,200 is read",
-        script: "wire read 03000000000144b1.41x1201",
-        renet: || read(&[&[3, 0, 0, 0, 0, 1, 0x44, 0xb1][..], &[0x41; 1_201]].concat()),
-    },
-    Case {
-        what: "a piece with num_slices 0 is written",
-        script: "wire reliable-slice 0 0 0 0 0 0 1 41",
-        renet: || write(piece(true, slice(0, 0, 0, 1)), 64),
-    },
-    Case {
-        what: "a piece with a wild index is written",
-        script: "wire unreliable-slice 0 0 0 1 1 0 1 41",
-        renet: || write(piece(false, slice(0, 1, 1, 1)), 64),
-    },
-    Case {
-        what: "a piece with an empty payload is written",
-        script: "wire reliable-slice 0 0 0 0 1 0 0 -",
-        renet: || write(piece(true, slice(0, 0, 1, 0)), 64),
-    },
-    Case {
-        what: "a piece with a payload above 1,200 is written",
-        script: "wire reliable-slice 0 0 0 0 1 0 1201 41x1201",
-        renet: || write(piece(true, slice(0, 0, 1, 1_201)), 2_048),
-    },
     Case {
         what: "an ack of no ranges is written",
         script: "wire ack 0 0",
@@ -184,15 +120,6 @@ const CASES: &[Case] = &[
         what: "a size too large to add",
         script: "sr new 0 2 1 2 10000 0\nsr send 41\nsr can-send 2^64-1",
         renet: || format!("{}", sender().can_send_message(usize::MAX)),
-    },
-    Case {
-        what: "a small message that packs to more than 1,200, first in its round",
-        script: "sr new 0 2 1 2 10000 0\nsr send 41x1198\nsr round 0 0 5000",
-        renet: || {
-            let mut s = SendChannelReliable::new(0, Duration::ZERO, 10_000);
-            s.send_message(bytes(1_198)).unwrap();
-            format!("{} packets", s.get_packets_to_send(&mut 0, &mut 5_000, Duration::ZERO).len())
-        },
     },
     Case {
         what: "a round at a time before that of the last one",
@@ -266,24 +193,6 @@ const CASES: &[Case] = &[
             let mut c = SliceConstructor::new(0, 1);
             c.process_slice(0, b"A").unwrap();
             format!("{:?}", c.process_slice(0, b"A"))
-        },
-    },
-    Case {
-        what: "a 65th range below the top",
-        script: "acks add 10\nacks add 12\nacks add 14\nacks add 16\nacks add 18\nacks add 20\nacks add 22\nacks add 24\n\
-                 acks add 26\nacks add 28\nacks add 30\nacks add 32\nacks add 34\nacks add 36\nacks add 38\nacks add 40\n\
-                 acks add 42\nacks add 44\nacks add 46\nacks add 48\nacks add 50\nacks add 52\nacks add 54\nacks add 56\n\
-                 acks add 58\nacks add 60\nacks add 62\nacks add 64\nacks add 66\nacks add 68\nacks add 70\nacks add 72\n\
-                 acks add 74\nacks add 76\nacks add 78\nacks add 80\nacks add 82\nacks add 84\nacks add 86\nacks add 88\n\
-                 acks add 90\nacks add 92\nacks add 94\nacks add 96\nacks add 98\nacks add 100\nacks add 102\nacks add 104\n\
-                 acks add 106\nacks add 108\nacks add 110\nacks add 112\nacks add 114\nacks add 116\nacks add 118\nacks add 120\n\
-                 acks add 122\nacks add 124\nacks add 126\nacks add 128\nacks add 130\nacks add 132\nacks add 134\nacks add 136\n\
-                 acks add 8\nacks count",
-        renet: || {
-            let mut c = RenetClient::default();
-            (5..69).for_each(|n| c.add(2 * n));
-            c.add(8);
-            format!("{} ranges", c.pending_acks.len())
         },
     },
 ];

@@ -9,7 +9,7 @@ use renet::channel::reliable::{ReceiveChannelReliable, SendChannelReliable};
 use renet::channel::unreliable::{ReceiveChannelUnreliable, SendChannelUnreliable};
 use renet::channel::SliceConstructor;
 use renet::error::ChannelError;
-use renet::packet::{without_empty, Packet, Slice};
+use renet::packet::{Packet, Slice};
 use std::collections::{BTreeMap, VecDeque};
 use std::time::Duration;
 
@@ -18,12 +18,6 @@ fn number(e: ChannelError) -> usize {
         ChannelError::ReliableChannelMaxMemoryReached => 7,
         ChannelError::InvalidSliceMessage => 8,
     }
-}
-
-/// Of a piece that renet took: the indices that its reassembly has not; that of a whole message is gone.
-fn taken_piece(open: Option<&SliceConstructor>, num: u64) -> String {
-    let missing = open.map_or(0, |c| (0..num as usize).filter(|i| !c.has(*i)).count());
-    format!("taken, {missing} of {num} missing")
 }
 
 fn taken(r: Result<(), ChannelError>) -> String {
@@ -47,28 +41,22 @@ pub struct Round {
     pub packets: usize,
 }
 
-/// A round that renet made: 13 of the sequences that it needed, then 15, then the packets are put out. A packet
-/// that renet closed empty is left out (document 02, [4]), and with it the round is outside the compared domain.
+/// A round that renet made: 13 of the sequences that it needed, then 15, then the packets are put out.
 fn put_out(
     outbox: &mut Outbox,
-    packets: Vec<Packet>,
+    packets: &[Packet],
     sequence: u64,
     next: u64,
     spent: u64,
     tally: &mut Tally,
 ) -> Result<Round, Round> {
     let refusal = |answer| Err(Round { answer, packets: 0 });
-    let (packets, empty) = without_empty(packets);
-    let next = next - empty;
     if packets.len() as u64 > LIMIT - sequence {
         return refusal(tally.added(13));
     }
     let packets: Vec<Vec<u8>> = packets.iter().map(wire::encoded).collect();
     if !outbox.room(&packets) {
         return refusal(tally.added(15));
-    }
-    if empty > 0 {
-        tally.not_renets("a round in which renet closes an empty packet");
     }
     let bytes = outbox.put(&packets);
     let n = packets.len();
@@ -153,7 +141,7 @@ impl Sr {
         }
         let (mut after, mut next, mut left) = (self.renet.copy(), sequence, allowance);
         let packets = after.get_packets_to_send(&mut next, &mut left, Duration::from_nanos(time));
-        match put_out(&mut self.outbox, packets, sequence, next, allowance - left, tally) {
+        match put_out(&mut self.outbox, &packets, sequence, next, allowance - left, tally) {
             Err(refused) => refused,
             Ok(sent) => {
                 self.renet = after;
@@ -255,7 +243,7 @@ impl Su {
         if LIMIT < after.next_sliced_id() {
             return refusal(tally.added(13));
         }
-        match put_out(&mut self.outbox, packets, sequence, next, allowance - left, tally) {
+        match put_out(&mut self.outbox, &packets, sequence, next, allowance - left, tally) {
             Err(refused) => refused,
             Ok(sent) => {
                 self.renet = after;
@@ -322,20 +310,6 @@ impl Rr {
 
     fn exceeds(&self, charge: usize) -> bool {
         self.renet.max_memory_usage_bytes() < self.renet.memory_usage_bytes() + charge
-    }
-
-    /// Whether the next message, of n bytes, can never come: it isn't here, and what it needs is held by later ones, which
-    /// come out after it.
-    pub fn stuck(&self, n: usize) -> bool {
-        let (id, s) = (self.renet.oldest_pending(), &self.settings);
-        let small = n <= SLICE_SIZE;
-        let full = match small {
-            true => self.stores.free_cell(s).is_none(),
-            false => self.stores.free_lane(s).is_none(),
-        };
-        let charge = if small { n } else { n.div_ceil(SLICE_SIZE) * SLICE_SIZE };
-        let open = self.places.keys().any(|&id| self.renet.open(id).is_some());
-        !self.old_or_held(id) && self.renet.open(id).is_none() && (full || self.exceeds(charge) && !open)
     }
 
     fn old_or_held(&self, id: u64) -> bool {
@@ -429,10 +403,7 @@ impl Rr {
             }
             self.places.insert(id, place);
         }
-        match answer {
-            Ok(()) => taken_piece(self.renet.open(id), num),
-            Err(e) => refused(number(e)),
-        }
+        taken(answer)
     }
 
     pub fn look(&self, tally: &mut Tally) -> String {
@@ -582,7 +553,7 @@ impl Ru {
             self.open.remove(&id);
             self.waiting.push_back(place);
         }
-        taken_piece(self.renet.open(id), num)
+        "taken".into()
     }
 
     /// 14.
@@ -682,10 +653,7 @@ impl Sc {
             self.lane.write(index as usize * SLICE_SIZE, payload);
         }
         match answer {
-            None => {
-                let missing = (0..num).filter(|i| !self.renet.has(*i)).count();
-                format!("more, {missing} missing")
-            }
+            None => "more".into(),
             Some(m) => {
                 assert!(
                     self.lane.bytes[..m.len()] == m[..],

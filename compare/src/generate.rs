@@ -314,8 +314,7 @@ impl Generator {
                 self.burst();
             }
             8..=12 => self.reassembly(),
-            13..=18 => self.gathering(),
-            19..=40 => self.any(),
+            13..=40 => self.any(),
             _ => match self.theme {
                 Theme::Reliable => self.reliable(),
                 Theme::Unreliable => self.unreliable(),
@@ -978,23 +977,12 @@ impl Generator {
             1 => self.number(),
             _ => self.random.below(n - place + 1),
         };
-        let num = match self.random.below(12) {
-            0 => self.number(),
-            1 => self.random.one(&[0, 1, 1_000_000, 1_000_001, LIMIT - 1]),
-            _ => 1 + self.random.below(100),
-        };
-        let index = match self.random.below(12) {
-            0 => self.number(),
-            1 => num,
-            2 => num.saturating_sub(1),
-            _ => self.random.below(num.max(1)),
-        };
         let numbers = [
             self.good(),
             self.random.below(256),
             self.good(),
-            index,
-            num,
+            self.good(),
+            self.good(),
             place,
             len,
         ];
@@ -1090,46 +1078,6 @@ impl Generator {
         self.emit(format!("sc slice {index} {payload}"));
     }
 
-    // ---- gathering acks
-
-    /// Sequences that arrive in order, behind a gap, late, beside a range, and twice.
-    fn gathering(&mut self) {
-        if self.random.chance(4) {
-            self.emit("acks new".into());
-        }
-        let gaps = self.random.one(&[5, 40, 90]);
-        for _ in 0..1 + self.random.below(30) {
-            let ranges = self.session.acks.ranges().to_vec();
-            let top = ranges.last().map_or(0, |r| r.end);
-            let beside = match ranges.len() {
-                0 => 0..1,
-                n => ranges[self.random.below(n as u64) as usize].clone(),
-            };
-            let x = match self.random.below(20) {
-                _ if self.random.chance(gaps) => top + 1 + self.random.below(3),
-                0..=7 => top,
-                8 | 9 => beside.start.saturating_sub(self.random.below(3)),
-                10 | 11 => beside.end + self.random.below(3),
-                12 | 13 => self.random.below(top + 1),
-                14..=18 => self.random.below(300),
-                _ => self.number(),
-            };
-            match self.random.below(12) {
-                0 => self.emit_words("acks named", &[x]),
-                1 => {
-                    let place = self.random.one(&[0, 0, 0, 1, 7, 2_040, 2_048, 2_049, u64::MAX]);
-                    let sequence = if self.random.chance(5) { self.number() } else { x };
-                    self.emit_words("acks packet", &[sequence, place])
-                }
-                2 => {
-                    let ask = self.random.one(&["acks count", "acks dropped", "wire digest"]);
-                    self.emit(ask.into())
-                }
-                _ => self.emit_words("acks add", &[x]),
-            }
-        }
-    }
-
     // ---- lent memory
 
     /// Cuts what is lent to an end, to just enough or one less than that.
@@ -1184,7 +1132,6 @@ impl Generator {
             "su" => self.session.su.renet.copy().get_packets_to_send(&mut next, &mut left),
             _ => vec![],
         };
-        let packets = renet::packet::without_empty(packets).0;
         let fits = packets.iter().all(|p| p.sequence() < LIMIT);
         let bytes: usize = if fits {
             packets.iter().map(|p| crate::wire::encoded(p).len()).sum()

@@ -1,4 +1,4 @@
-//! What documents 01 and 02 add to renet, kept apart from renet's answers: the numbers 9 to 19, the lent
+//! What document 01 adds to renet, kept apart from renet's answers: the numbers 9 to 17, the lent
 //! memory with its cells and lanes, and the calls in which renet can't be followed. Nothing in this
 //! file calls renet. An answer that is given here without renet is counted as outside the compared
 //! domain, by its reason.
@@ -17,7 +17,7 @@ pub const TABLE: usize = 512;
 const FILL: u8 = 0xa5;
 const FILL_WORD: u64 = 0xa5a5_a5a5_a5a5_a5a5;
 
-const NAMES: [&str; 24] = [
+const NAMES: [&str; 18] = [
     "",
     "BufferTooShort",
     "InvalidNumSlices",
@@ -36,12 +36,6 @@ const NAMES: [&str; 24] = [
     "NoRoom",
     "WrongKind",
     "BadIndex",
-    "TooFarAhead",
-    "InvalidSliceIndex",
-    "BadSample",
-    "NoSuchChannel",
-    "BadPlan",
-    "BadRecord",
 ];
 
 /// A refusal in words.

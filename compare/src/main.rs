@@ -7,24 +7,17 @@
 //!     compare check FILE ..              holds renet's answers to those that stand behind `#=`
 //!     compare limits                     answers the cases of the program `limits`
 //!     compare network SEED COUNT OURS    plays demand 3 over a simulated line
-//!     compare stream SEED COUNT MESSAGES OURS
-//!                                        plays streams, with the window and without it
 //!     compare differences                what renet does where it can't be followed
 
-mod acks;
 mod differences;
 mod ends;
 mod generate;
 mod layer;
 mod limits;
-mod meter;
 mod network;
-mod record;
 mod run;
 mod script;
 mod session;
-mod stream;
-mod window;
 mod wire;
 
 use layer::Tally;
@@ -47,12 +40,9 @@ fn main() -> ExitCode {
             return run::run(number(seed), number(count), number(lines) as usize, ours)
         }
         ["network", seed, count, ours] => return network::run(number(seed), number(count), ours),
-        ["stream", seed, count, messages, ours] => {
-            return stream::run(number(seed), number(count), number(messages) as usize, ours)
-        }
         ["shrink", file, ours] => return run::shrink_file(file, ours),
         _ => {
-            eprintln!("compare answer | generate SEED [LINES] | run SEED COUNT LINES OURS | shrink FILE OURS | check FILE .. | limits | network SEED COUNT OURS | stream SEED COUNT MESSAGES OURS | differences");
+            eprintln!("compare answer | generate SEED [LINES] | run SEED COUNT LINES OURS | shrink FILE OURS | check FILE .. | limits | network SEED COUNT OURS | differences");
             return ExitCode::from(2);
         }
     }

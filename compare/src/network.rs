@@ -17,25 +17,23 @@ struct Flight {
     packet: Option<Vec<u8>>,
 }
 
-pub struct Play {
-    pub random: Random,
-    pub session: Session,
-    pub lines: Vec<String>,
-    pub answers: String,
-    pub told: String,
+struct Play {
+    random: Random,
+    session: Session,
+    lines: Vec<String>,
+    answers: String,
+    told: String,
     flights: Vec<Flight>,
     /// the spelling of each message that was queued
-    pub queued: Vec<String>,
+    queued: Vec<String>,
     loss: u64,
     delay: u64,
-    pub slots: usize,
-    pub lanes: usize,
-    pub pieces: usize,
-    /// the receiver is asked after each packet until it says nothing
-    asked: bool,
+    slots: usize,
+    lanes: usize,
+    pieces: usize,
 }
 
-pub const RESEND: u64 = 100;
+const RESEND: u64 = 100;
 const MOST_ROUNDS: u64 = 20_000;
 
 impl Play {
@@ -43,19 +41,7 @@ impl Play {
         let mut random = Random::new(seed);
         let loss = random.one(&[0, 10, 30, 50, 70, 90]);
         let delay = random.one(&[1, 50, 400]);
-        let sizes = [1 + random.below(8), 1 + random.below(3), 1 + random.below(8)];
-        Play::start(random, loss, delay, sizes, 1_000_000, false)
-    }
-
-    /// Two ends with the same slots, lanes and pieces.
-    pub fn start(
-        random: Random,
-        loss: u64,
-        delay: u64,
-        [slots, lanes, pieces]: [u64; 3],
-        memory: u64,
-        asked: bool,
-    ) -> Play {
+        let (slots, lanes, pieces) = (1 + random.below(8), 1 + random.below(3), 1 + random.below(8));
         let mut play = Play {
             random,
             session: Session::new(),
@@ -69,15 +55,14 @@ impl Play {
             slots: slots as usize,
             lanes: lanes as usize,
             pieces: pieces as usize,
-            asked,
         };
         play.run(format!("# loss {loss} %, delay up to {delay} ns"));
-        play.run(format!("sr new 0 {slots} {lanes} {pieces} {memory} {RESEND}"));
-        play.run(format!("rr new {slots} {lanes} {pieces} {memory}"));
+        play.run(format!("sr new 0 {slots} {lanes} {pieces} 1000000 {RESEND}"));
+        play.run(format!("rr new {slots} {lanes} {pieces} 1000000"));
         play
     }
 
-    pub fn run(&mut self, line: String) {
+    fn run(&mut self, line: String) {
         self.answers.clear();
         self.session.run(line.as_bytes(), &mut self.answers);
         self.told += &self.answers;
@@ -85,7 +70,7 @@ impl Play {
     }
 
     /// How many messages came out.
-    pub fn out(&self) -> usize {
+    fn out(&self) -> usize {
         self.session.rr.renet.oldest_pending() as usize
     }
 
@@ -99,30 +84,18 @@ impl Play {
         if under_way.count() >= room {
             return;
         }
-        let n = self.length(small);
-        self.send_message(small, n);
-    }
-
-    /// The length of a message: a small one has its number in front of at most 1,195 bytes, a sliced one of at least 1,196.
-    pub fn length(&mut self, small: bool) -> u64 {
         let most = if small {
             1_195
         } else {
             (self.pieces * 1_200 - 1_201) as u64
         };
-        5 + self.random.below(most + 1) + if small { 0 } else { 1_196 }
-    }
-
-    /// Queues a message of n bytes, and says whether the sender took it.
-    pub fn send_message(&mut self, small: bool, n: u64) -> bool {
+        let n = self.random.below(most + 1) + if small { 0 } else { 1_196 };
         let (kind, id) = (if small { "00" } else { "01" }, self.queued.len());
-        let message = format!("{kind}{id:08x}.{:02x}~{}", id % 251, n - 5);
+        let message = format!("{kind}{id:08x}.{:02x}~{n}", id % 251);
         self.run(format!("sr send {message}"));
-        let taken = self.answers.contains(": taken");
-        if taken {
+        if self.answers.contains(": taken") {
             self.queued.push(message);
         }
-        taken
     }
 
     /// Puts a line under way: lost, once, or more often.
@@ -140,8 +113,8 @@ impl Play {
         }
     }
 
-    pub fn round(&mut self, now: u64, sequence: u64, most: u64) -> u64 {
-        let allowance = 1_200 + self.random.below(most);
+    fn round(&mut self, now: u64, sequence: u64) -> u64 {
+        let allowance = 1_200 + self.random.below(6_000);
         self.run(format!("sr round {sequence} {now} {allowance}"));
         let outbox = &self.session.sr.outbox;
         let packets: Vec<Vec<u8>> = (0..outbox.kept).map(|k| outbox.packet(k).to_vec()).collect();
@@ -152,7 +125,7 @@ impl Play {
     }
 
     /// What is due arrives; what the receiver took or has is acknowledged.
-    pub fn arrive(&mut self, now: u64) {
+    fn arrive(&mut self, now: u64) {
         let (due, later) = std::mem::take(&mut self.flights).into_iter().partition(|f| f.at <= now);
         self.flights = later;
         let mut due: Vec<Flight> = due;
@@ -175,9 +148,6 @@ impl Play {
             for (ack, _) in acks.into_iter().zip(taken).filter(|(_, taken)| *taken) {
                 self.send(now, ack, None);
             }
-            while self.asked && !self.answers.contains(": nothing") {
-                self.run("rr take".into());
-            }
         }
     }
 }
@@ -190,7 +160,7 @@ fn play(seed: u64, messages: usize) -> Result<Play, String> {
         if p.queued.len() < messages {
             p.queue();
         }
-        sequence = p.round(now, sequence, 6_000);
+        sequence = p.round(now, sequence);
         p.arrive(now);
         while p.random.chance(60) {
             p.run("rr take".into());
@@ -207,16 +177,8 @@ fn play(seed: u64, messages: usize) -> Result<Play, String> {
     ))
 }
 
-/// Holds what came out to what was queued, at every step; and that all came out.
-pub fn held(p: &Play, answers: &str) -> Result<(), String> {
-    match in_order(p, answers)? == p.queued.len() {
-        true => Ok(()),
-        false => Err(format!("not all of {} messages came out", p.queued.len())),
-    }
-}
-
-/// Holds what came out to what was queued, at every step, and says how much that is.
-pub fn in_order(p: &Play, answers: &str) -> Result<usize, String> {
+/// Holds what came out to what was queued, at every step.
+fn held(p: &Play, answers: &str) -> Result<(), String> {
     let mut queued = 0;
     let mut out = 0;
     for text in answers.lines() {
@@ -238,7 +200,10 @@ pub fn in_order(p: &Play, answers: &str) -> Result<usize, String> {
         }
         out += 1;
     }
-    Ok(out)
+    match out == p.queued.len() {
+        true => Ok(()),
+        false => Err(format!("{out} of {} messages came out", p.queued.len())),
+    }
 }
 
 pub fn run(seed: u64, count: u64, command: &str) -> ExitCode {

@@ -1,13 +1,9 @@
 //! A script, run line by line: docs/SCRIPT.md.
 
-use crate::acks::Acks;
 use crate::ends::{Rr, Ru, Sc, Sr, Su};
 use crate::layer::{refused, Outbox, Stores};
 use crate::layer::{Settings, Tally, LANE, LANES, LIMIT, OUT, SMALL, TABLE};
-use crate::meter::Meter;
-use crate::record;
 use crate::script::{self, Args, Bad};
-use crate::window::Window;
 use crate::wire::{self, Wire};
 use octets::{Octets, OctetsMut};
 use renet::packet::Packet;
@@ -19,10 +15,7 @@ pub struct Session {
     pub rr: Rr,
     pub ru: Ru,
     pub sc: Sc,
-    pub acks: Acks,
     pub wire: Wire,
-    meter: Meter,
-    pub window: Window,
     pub tally: Tally,
     /// the answers to the line, its number left out: the first, and the further ones
     said: Vec<String>,
@@ -101,10 +94,7 @@ impl Session {
             rr: Rr::new(),
             ru: Ru::new(),
             sc: Sc::new(),
-            acks: Acks::default(),
             wire: Wire::new(),
-            meter: Meter::default(),
-            window: Window::new(),
             tally: Tally::default(),
             said: vec![],
             line: 0,
@@ -153,20 +143,10 @@ impl Session {
         match words[0] {
             b"wire" => self.wire_call(call, &mut a),
             b"sc" => self.sc_call(call, &mut a),
-            b"acks" => self.acks_call(call, &mut a),
-            b"window" => self.window_call(call, &mut a),
             b"sr" => self.sr_call(call, &mut a),
             b"su" => self.su_call(call, &mut a),
             b"rr" => self.rr_call(call, &mut a),
             b"ru" => self.ru_call(call, &mut a),
-            b"meter" => {
-                let told = self.meter.call(call, &mut a, &mut self.tally)?;
-                self.say(told)
-            }
-            b"record" => {
-                let told = record::call(&mut self.wire, call, &mut a, &mut self.tally)?;
-                self.say(told)
-            }
             _ => Err("no such end".into()),
         }
     }
@@ -178,42 +158,6 @@ impl Session {
 
     fn say_used(&mut self, text: String, usage: usize) -> Result<(), Bad> {
         self.say(format!("{text}; usage {usage}"))
-    }
-
-    fn acks_call(&mut self, call: &str, a: &mut Args) -> Result<(), Bad> {
-        let told = match call {
-            "new" => {
-                a.end()?;
-                self.acks = Acks::default();
-                "ready".into()
-            }
-            "add" => {
-                let sequence = a.number()?;
-                a.end()?;
-                self.acks.add(sequence, &mut self.tally)
-            }
-            "named" => {
-                let sequence = a.number()?;
-                a.end()?;
-                self.acks.named(sequence, &mut self.tally)
-            }
-            "packet" => {
-                let (sequence, place) = (a.number()?, a.number()?);
-                a.end()?;
-                let packet = self.acks.packet(sequence, &mut self.tally);
-                self.wire.write_at(place, packet)
-            }
-            "count" => {
-                a.end()?;
-                format!("ranges {}", self.acks.ranges().len())
-            }
-            "dropped" => {
-                a.end()?;
-                yes(self.acks.dropped)
-            }
-            _ => return Err("no such call".into()),
-        };
-        self.say(told)
     }
 
     fn wire_call(&mut self, call: &str, a: &mut Args) -> Result<(), Bad> {
@@ -356,26 +300,6 @@ impl Session {
         self.say(told)
     }
 
-    /// renet has no window, so each call is outside the compared domain.
-    fn window_call(&mut self, call: &str, a: &mut Args) -> Result<(), Bad> {
-        let (window, tally) = (&mut self.window, &mut self.tally);
-        let told = match call {
-            "new" => {
-                let s = settings(a)?;
-                a.end()?;
-                window.set_up(s)
-            }
-            "can" | "queued" => {
-                let (oldest, n) = (a.number()?, a.number()?);
-                a.end()?;
-                window.ask(oldest, n, call == "queued")
-            }
-            _ => return Err("no such call".into()),
-        };
-        tally.not_renets("a window");
-        self.say(told)
-    }
-
     fn sr_call(&mut self, call: &str, a: &mut Args) -> Result<(), Bad> {
         let (sr, tally) = (&mut self.sr, &mut self.tally);
         let told = match call {
@@ -406,10 +330,6 @@ impl Session {
                 let (id, index) = (a.number()?, a.number()?);
                 a.end()?;
                 sr.ack(id, Some(index), tally)
-            }
-            "oldest" => {
-                a.end()?;
-                format!("oldest {}", sr.renet.oldest_unacked())
             }
             "available" => {
                 a.end()?;

@@ -1,14 +1,10 @@
 //! The wire: renet's `Packet::from_bytes` and `Packet::to_bytes`, and the stand-in for `octets`.
 
-use crate::layer::{refused, Lent, LentWords, Tally, LIMIT, SLICE_SIZE};
+use crate::layer::{refused, Lent, LentWords, Tally, LIMIT};
 use crate::script::spell;
 use octets::{Octets, OctetsMut};
 use renet::packet::{Packet, SerializationError, Slice};
 use std::fmt::Write;
-
-const WILD: &str = "a piece read with a wild index";
-const PAYLOAD: &str = "an unreliable piece read, empty or above 1,200";
-const WRITTEN: &str = "a piece written that the reader refuses";
 
 /// A packet that was read, places and lengths of its payloads, and how many bytes it used.
 pub struct Read {
@@ -132,52 +128,12 @@ fn write(packet: &Packet, room: usize) -> Result<Vec<u8>, usize> {
     Ok(out)
 }
 
-/// Document 02, [2]: what is refused of an index and num_slices (2, 19), and of a payload's length (4, 3).
-fn label_fault(index: u64, num: u64) -> Option<usize> {
-    match num {
-        1..=1_000_000 if index < num => None,
-        1..=1_000_000 => Some(19),
-        _ => Some(2),
-    }
-}
-
-fn payload_fault(len: usize) -> Option<usize> {
-    match len {
-        0 => Some(4),
-        1..=SLICE_SIZE => None,
-        _ => Some(3),
-    }
-}
-
-/// Slice index and num_slices of a piece, where both can be read.
-fn label(s: &[u8]) -> Option<(u64, u64)> {
-    let mut b = Octets::with_slice(s);
-    if !matches!(b.get_u8().ok()?, 2 | 3) {
-        return None;
-    }
-    b.get_varint().ok()?;
-    b.get_u8().ok()?;
-    b.get_varint().ok()?;
-    Some((b.get_varint().ok()?, b.get_varint().ok()?))
-}
-
-/// What renet reads, and where its payloads lie; 19 for a wild index, 4 and 3 of type 3, which renet does not judge;
-/// 11 where a table has too few records.
+/// What renet reads, and where its payloads lie; 11 where a table has too few records.
 fn read(s: &[u8], messages: usize, ranges: usize, tally: &mut Tally) -> Result<Read, usize> {
-    if label(s).and_then(|(index, num)| label_fault(index, num)) == Some(19) {
-        tally.unfollowed(19, WILD);
-        return Err(19);
-    }
     octets::runs();
     let mut b = Octets::with_slice(s);
     let packet = Packet::from_bytes(&mut b).map_err(number)?;
     let (used, runs) = (b.off(), octets::runs());
-    if let Packet::UnreliableSlice { slice, .. } = &packet {
-        if let Some(number) = payload_fault(slice.payload.len()) {
-            tally.unfollowed(number, PAYLOAD);
-            return Err(number);
-        }
-    }
     let there = runs.iter().map(|&(at, len)| &s[at..at + len]);
     assert!(there.eq(payloads(&packet)), "a payload is not where it was read");
     let full = match &packet {
@@ -230,7 +186,7 @@ pub fn small(ids: bool, head: [u64; 3], store: &[u8], table: &[u64], tally: &mut
     })
 }
 
-/// A packet of a piece, judged: 10, 13, and 2, 19, 4, 3, which renet does not judge in writing.
+/// A packet of a piece, judged: 10, 13.
 pub fn slice(reliable: bool, head: [u64; 7], store: &[u8], tally: &mut Tally) -> Result<Packet, usize> {
     let [sequence, channel, message_id, index, num, place, len] = head;
     let mut refuse = |number| {
@@ -242,10 +198,6 @@ pub fn slice(reliable: bool, head: [u64; 7], store: &[u8], tally: &mut Tally) ->
     };
     if [sequence, message_id, index, num].iter().any(|v| LIMIT <= *v) {
         return refuse(13);
-    }
-    if let Some(number) = label_fault(index, num).or(payload_fault(payload.len())) {
-        tally.unfollowed(number, WRITTEN);
-        return Err(number);
     }
     let (slice_index, num_slices) = (index as usize, num as usize);
     let slice = Slice {
@@ -337,18 +289,6 @@ impl Wire {
             Ok(bytes) => {
                 self.out.write(0, &bytes);
                 format!("written {} {}", bytes.len(), spell(&bytes))
-            }
-        }
-    }
-
-    /// Writes a packet to a place.
-    pub fn write_at(&mut self, at: u64, packet: Result<Packet, usize>) -> String {
-        let room = (self.out.len as u64).saturating_sub(at) as usize;
-        match packet.and_then(|p| write(&p, room)) {
-            Err(number) => refused(number),
-            Ok(bytes) => {
-                self.out.write(at as usize, &bytes);
-                format!("to {} {}", at as usize + bytes.len(), spell(&bytes))
             }
         }
     }

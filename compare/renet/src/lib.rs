@@ -1,8 +1,7 @@
-//! renet's own packet.rs, error.rs and channel/*.rs, unchanged: each file is included where it lies. Of
-//! remote_connection.rs it is `add_pending_ack` alone.
+//! renet's own packet.rs, error.rs and channel/*.rs, unchanged: each file is included where it lies.
 //!
-//! Beside each file stands what the driver must see of private fields, a copy of a sender, by which a round
-//! can be undone, and a round's packets without those that hold no message. Nothing here decides anything. channel/mod.rs holds the names of the
+//! Beside each file stands what the driver must see of private fields, and a copy of a sender, by
+//! which a round can be undone. Nothing here decides anything. channel/mod.rs holds the names of the
 //! three files and a configuration that isn't used; the names stand below.
 #![allow(dead_code)]
 
@@ -12,43 +11,6 @@ pub mod error {
 
 pub mod packet {
     include!(concat!(env!("RENET_SOURCE"), "/packet.rs"));
-
-    impl Packet {
-        /// Whether it holds no message.
-        fn holds_none(&self) -> bool {
-            match self {
-                Packet::SmallReliable { messages, .. } => messages.is_empty(),
-                Packet::SmallUnreliable { messages, .. } => messages.is_empty(),
-                _ => false,
-            }
-        }
-
-        fn sequence_mut(&mut self) -> &mut u64 {
-            match self {
-                Packet::SmallReliable { sequence, .. }
-                | Packet::SmallUnreliable { sequence, .. }
-                | Packet::UnreliableSlice { sequence, .. }
-                | Packet::ReliableSlice { sequence, .. }
-                | Packet::Ack { sequence, .. } => sequence,
-            }
-        }
-    }
-
-    /// A round's packets without those that hold no message, the sequences after them lowered; and how many
-    /// those were.
-    pub fn without_empty(packets: Vec<Packet>) -> (Vec<Packet>, u64) {
-        let mut empty = 0;
-        let mut held = vec![];
-        for mut packet in packets {
-            if packet.holds_none() {
-                empty += 1;
-            } else {
-                *packet.sequence_mut() -= empty;
-                held.push(packet);
-            }
-        }
-        (held, empty)
-    }
 }
 
 pub mod channel {
@@ -71,10 +33,6 @@ pub mod channel {
         impl SendChannelReliable {
             pub fn memory_usage_bytes(&self) -> usize {
                 self.memory_usage_bytes
-            }
-
-            pub fn oldest_unacked(&self) -> u64 {
-                self.unacked_messages.keys().next().copied().unwrap_or(self.next_id())
             }
 
             pub fn next_id(&self) -> u64 {
@@ -205,24 +163,6 @@ pub mod channel {
             pub fn opened(&self) -> usize {
                 self.slices.len()
             }
-        }
-    }
-}
-
-pub mod remote_connection {
-    use std::ops::Range;
-
-    /// Of a connection, the field that `add_pending_ack` reads and writes.
-    #[derive(Default)]
-    pub struct RenetClient {
-        pub pending_acks: Vec<Range<u64>>,
-    }
-
-    include!(concat!(env!("OUT_DIR"), "/add_pending_ack.rs"));
-
-    impl RenetClient {
-        pub fn add(&mut self, sequence: u64) {
-            self.add_pending_ack(sequence)
         }
     }
 }

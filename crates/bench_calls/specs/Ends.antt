@@ -22,13 +22,11 @@ use Rattle.receive_reliable.specs.Receive as rr
 use Rattle.receive_reliable.specs.declared.ReceiveChannelReliable.{ReceiveChannelReliable}
 use Rattle.receive_reliable.specs.declared.Made as rr_made
 use Rattle.receive_reliable.specs.declared.Arrived as rr_arrived
-use Rattle.receive_reliable.specs.declared.SliceArrived as rr_slice
 use Rattle.receive_reliable.specs.declared.Received as rr_received_of
 use Rattle.receive_unreliable.specs.Receive as ru
 use Rattle.receive_unreliable.specs.declared.ReceiveChannelUnreliable.{ReceiveChannelUnreliable}
 use Rattle.receive_unreliable.specs.declared.Made as ru_made
 use Rattle.receive_unreliable.specs.declared.Arrived as ru_arrived
-use Rattle.receive_unreliable.specs.declared.SliceArrived as ru_slice
 use Rattle.receive_unreliable.specs.declared.Received as ru_received_of
 use Rattle.bench_calls.specs.Times.{Times, Left, Held, Filled, UsageLeft}
 
@@ -137,7 +135,7 @@ RrHears msg k a b =
 -- piece k of message 0 arrives, which has n pieces
 abbrev pub RrCollects : ℕ → List ℕ → ℕ → Held ReceiveChannelReliable → Held ReceiveChannelReliable → Type 0
 RrCollects n piece k a b =
-    Left (rr.SliceGives a.state 0 n k piece a.small a.lanes b.lanes) (λ (r : rr_slice.SliceArrived). r.state) b.state × (b.small ≡ a.small)
+    Left (rr.SliceGives a.state 0 n k piece a.small a.lanes b.lanes) (λ (r : rr_arrived.Arrived). r.state) b.state × (b.small ≡ a.small)
 
 -- the next message is taken out
 abbrev pub RrTakes : ℕ → ReceiveChannelReliable → ReceiveChannelReliable → Type 0
@@ -167,7 +165,7 @@ RuHears msg k a b =
 -- piece k of message 0 arrives at time 0, which has n pieces
 abbrev pub RuCollects : ℕ → List ℕ → ℕ → Held ReceiveChannelUnreliable → Held ReceiveChannelUnreliable → Type 0
 RuCollects n piece k a b =
-    Left (ru.SliceGives a.state 0 n k piece 0 a.small a.lanes b.lanes) (λ (r : ru_slice.SliceArrived). r.state) b.state × (b.small ≡ a.small)
+    Left (ru.SliceGives a.state 0 n k piece 0 a.small a.lanes b.lanes) (λ (r : ru_arrived.Arrived). r.state) b.state × (b.small ≡ a.small)
 
 -- the next message is taken out
 abbrev pub RuTakes : ℕ → ReceiveChannelUnreliable → ReceiveChannelUnreliable → Type 0

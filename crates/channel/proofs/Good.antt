@@ -1,49 +1,45 @@
 -- Settings that were not refused are good, and bound the stores that they ask for. Assumes nothing.
 use Prim.Native.Nat.{ℕ, ◌+◌, ◌*◌, ◌≤◌, ◌<◌}
 use mathlib.Core.Path.{◌≡◌, refl, sym, ◌∙◌}
-use mathlib.Core.Bool.{Bool, true, false, not, ◌&&◌}
+use mathlib.Core.Bool.{Bool, true, false}
 use mathlib.Core.List.{[], ◌∷◌}
 use native.Mathlib.Nat.{suc-mul, mul-le-mul, mul-le-mul_right}
 use native.Mathlib.Omega.{arith}
-use borrow.Author.Tests.{ltb-false, leb-true, not-false}
+use borrow.Author.Tests.{ltb-false, leb-true}
 use lib.Dec.{ltb, leb}
-use Rattle.words.specs.Sizes.{SLICE_SIZE, LANES, PIECES}
+use Rattle.words.specs.Sizes.{SLICE_SIZE, SLOTS, LANES, PIECES, MAX_MEMORY}
 use Rattle.words.specs.Choice.{pick}
 use Rattle.words.specs.Lists.{All}
 use Rattle.words.specs.Refusal.{number_of}
 use Rattle.words.specs.declared.Refusal.{Refusal}
 use Rattle.words.proofs.Lists.{none-refused}
 use Rattle.words.proofs.Unique.{numbered-above}
-use Rattle.channel.specs.Settings.{within, in_ranges_of, settings_refusal, SettledGives, Good, least_settings, small_len_of, lane_len_of, lanes_len_of, stores_hold_of}
+use Rattle.channel.specs.Settings.{settings_refusal, SettledGives, Good, least_settings, small_len_of, lane_len_of, lanes_len_of, stores_hold_of}
 use Rattle.channel.specs.declared.Settings.{Settings}
 use Rattle.channel.specs.declared.Setup.TheVariants.{Ready, Refused}
-
--- a number that is within its bounds
-both : (a b : Bool) → (a && b) ≡ true → (a ≡ true) × (b ≡ true)
-both true b e = (refl, e)
-both false b e = absurd (let z : ◌≡◌ {A = ℕ} 0 1 = cc in omega arith)
-
-bounds : (least most n : ℕ) → within least most n ≡ true → (least ≤ n) × (n ≤ most)
-bounds least most n e = let t = both _ _ e in (leb-true _ _ t.0, leb-true _ _ t.1)
 
 pub good : (s : Settings) → settings_refusal s ≡ 0 → Good s
 unfolding settings_refusal All
 good s e =
-    let ranges = not-false (in_ranges_of s) (none-refused ((not (in_ranges_of s), 9) ∷ []) refl e).0 in
-    let first = both _ _ ranges in
-    let second = both _ _ first.0 in
-    let third = both _ _ second.0 in
-    let slots = bounds _ _ _ third.0 in
-    let lanes = bounds _ _ _ third.1 in
-    let pieces = bounds _ _ _ second.1 in
+    let a =
+    none-refused (
+    (ltb s.slots 1, 9) ∷
+    (ltb SLOTS s.slots, 9) ∷
+    (ltb s.lanes 1, 9) ∷
+    (ltb LANES s.lanes, 9) ∷
+    (ltb s.pieces 1, 9) ∷
+    (ltb PIECES s.pieces, 9) ∷
+    (ltb MAX_MEMORY s.max_memory_usage_bytes, 9) ∷ []
+    )
+    refl e in
     record {
-      slots-one = slots.0;
-      slots-most = slots.1;
-      lanes-one = lanes.0;
-      lanes-most = lanes.1;
-      pieces-one = pieces.0;
-      pieces-most = pieces.1;
-      max-most = (bounds _ _ _ first.1).1;
+      slots-one = ltb-false _ _ a.0;
+      slots-most = ltb-false _ _ a.1.0;
+      lanes-one = ltb-false _ _ a.1.1.0;
+      lanes-most = ltb-false _ _ a.1.1.1.0;
+      pieces-one = ltb-false _ _ a.1.1.1.1.0;
+      pieces-most = ltb-false _ _ a.1.1.1.1.1.0;
+      max-most = ltb-false _ _ a.1.1.1.1.1.1.0;
     }
 
 pub least-good : Good least_settings

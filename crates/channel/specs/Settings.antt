@@ -1,5 +1,5 @@
 -- Settings of a channel end and the two stores that it asks for. Document 01, "Sizes and settings". Assumes nothing.
-use Rattle.std.specs.Prelude.{ℕ, ◌*◌, ◌≤◌, ◌≡◌, Bool, false, not, ◌&&◌, [], ◌∷◌, ltb, leb, eqb}
+use Rattle.std.specs.Prelude.{ℕ, ◌*◌, ◌≤◌, ◌≡◌, Bool, false, [], ◌∷◌, ltb, leb, eqb}
 use Rattle.words.specs.Sizes.{SLICE_SIZE, SLOTS, LANES, PIECES, MAX_MEMORY}
 use Rattle.words.specs.Choice.{pick, refusal}
 use Rattle.words.specs.Refusal.{number_of}
@@ -8,21 +8,18 @@ use Rattle.channel.specs.declared.Setup.{Setup}
 use Rattle.channel.specs.declared.Settled.{Settled}
 use Rattle.channel.specs.declared.Setup.TheVariants.{Ready, Refused}
 
--- from the least to the most
-abbrev pub within : ℕ → ℕ → ℕ → Bool
-within least most n = leb least n && leb n most
-
--- slots 1 to 64, lanes 1 to 4, pieces 1 to 40, memory maximum 0 to 1,000,000
-abbrev pub in_ranges_of : Settings → Bool
-in_ranges_of s =
-    within 1 SLOTS s.slots
-    && within 1 LANES s.lanes
-    && within 1 PIECES s.pieces
-    && within 0 MAX_MEMORY s.max_memory_usage_bytes
-
--- 9 outside the ranges
+-- 9 outside the ranges: slots 1 to 64, lanes 1 to 4, pieces 1 to 40, memory maximum 0 to 1,000,000
 unfoldable pub settings_refusal : Settings → ℕ
-settings_refusal s = refusal ((not (in_ranges_of s), 9) ∷ [])
+settings_refusal s =
+    refusal (
+    (ltb s.slots 1, 9) ∷
+    (ltb SLOTS s.slots, 9) ∷
+    (ltb s.lanes 1, 9) ∷
+    (ltb LANES s.lanes, 9) ∷
+    (ltb s.pieces 1, 9) ∷
+    (ltb PIECES s.pieces, 9) ∷
+    (ltb MAX_MEMORY s.max_memory_usage_bytes, 9) ∷ []
+    )
 
 -- the refusal's number, 0 for none
 abbrev pub setup_number : Setup → ℕ

@@ -1,7 +1,7 @@
 // What the channel ends share: settings and how they are judged, the two stores that they ask for,
 // a part of a store, and the search of a table by id.
 ghost use Rattle.std.specs.Prelude.{◌≡◌, ◌+◌, ◌≤◌, length, take, drop};
-ghost use Rattle.channel.specs.Settings.{setup_number, within, in_ranges_of, settings_refusal, SettledGives, Good, stores_hold_of};
+ghost use Rattle.channel.specs.Settings.{setup_number, settings_refusal, SettledGives, Good, stores_hold_of};
 ghost use Rattle.channel.specs.Find.{held_at};
 
 use words::{LANES, MAX_MEMORY, PIECES, Refusal, SLICE_SIZE, SLOTS};
@@ -35,10 +35,28 @@ impl Settings {
     pub fn judge(self) -> Setup
         ensures { setup_number result ≡ settings_refusal self }
     {
-        if self.in_ranges() {
-            return Setup::Ready;
+        if self.slots < 1 {
+            return Setup::Refused(Refusal::BadSettings);
         }
-        Setup::Refused(Refusal::BadSettings)
+        if SLOTS < self.slots {
+            return Setup::Refused(Refusal::BadSettings);
+        }
+        if self.lanes < 1 {
+            return Setup::Refused(Refusal::BadSettings);
+        }
+        if LANES < self.lanes {
+            return Setup::Refused(Refusal::BadSettings);
+        }
+        if self.pieces < 1 {
+            return Setup::Refused(Refusal::BadSettings);
+        }
+        if PIECES < self.pieces {
+            return Setup::Refused(Refusal::BadSettings);
+        }
+        if MAX_MEMORY < self.max_memory_usage_bytes {
+            return Setup::Refused(Refusal::BadSettings);
+        }
+        Setup::Ready
     }
 
     // Judges the settings; the least ones stand for settings that are refused.
@@ -66,21 +84,6 @@ impl Settings {
         }
     }
 
-    fn in_ranges(self) -> bool
-        ensures { result ≡ in_ranges_of self }
-    {
-        if !within(1, SLOTS, self.slots) {
-            return false;
-        }
-        if !within(1, LANES, self.lanes) {
-            return false;
-        }
-        if !within(1, PIECES, self.pieces) {
-            return false;
-        }
-        within(0, MAX_MEMORY, self.max_memory_usage_bytes)
-    }
-
     // Whether a store for small messages and one for lanes, of these lengths, are long enough.
     pub fn stores_hold(self, small: usize, lane: usize) -> bool
         requires { Good self }
@@ -91,13 +94,6 @@ impl Settings {
         }
         self.lanes * (self.pieces * SLICE_SIZE) <= lane
     }
-}
-
-// Whether a number is one from the least to the most.
-fn within(least: usize, most: usize, n: usize) -> bool
-    ensures { result ≡ within least most n }
-{
-    least <= n && n <= most
 }
 
 // The part of a store at a place, so many bytes long.

@@ -20,15 +20,14 @@ use Rattle.send_reliable.specs.declared.Sending.{Sending}
 use Rattle.send_reliable.specs.declared.Kind.{Kind}
 use Rattle.send_reliable.specs.declared.Kind.TheVariants.{Small, Sliced}
 use Rattle.send_reliable.specs.declared.Row.{Row}
-use Rattle.send_reliable.specs.declared.Piece.{Piece as Flag}
+use Rattle.send_reliable.specs.declared.Piece.{Piece}
 use Rattle.send_reliable.specs.declared.SendChannelReliable.{SendChannelReliable}
 use Rattle.send_reliable.specs.Sender.{kind_of, as_row, no_row, no_piece, live, piece_at, acked_pieces, PlacedKind, Valid}
 use Rattle.send_reliable.specs.Queue.{Spot, spot_of, add_small, add_sliced, state_at}
 use Rattle.send_reliable.specs.Ack.{has_id, row_of, closed, without, ack_small, marked, ack_piece}
 use Rattle.send_reliable.proofs.Valid.{rows-room}
-use Rattle.delivery.specs.Calls.{Piece, piece}
-use Rattle.delivery.specs.Rounds.{In, here, there, lacking}
-use Rattle.delivery.proofs.Sender.{acked_at}
+use Rattle.delivery.specs.World.{Part, whole, piece}
+use Rattle.delivery.specs.Window.{In, here, there, open_from, acked_at}
 use Rattle.delivery.proofs.Lists.{in_left, in_right, in-cases, in-length, rem, splice-away, head-front}
 use Rattle.delivery.proofs.Rotate.{open-append, queue_at, queue-same, queue-rem}
 use Rattle.delivery.proofs.Walk.{Other}
@@ -39,42 +38,42 @@ use Rattle.delivery.proofs.Cases.{spot-cases, found, NewAck, small_cases, piece-
 
 pub queue-pieces : (s s' : SendChannelReliable) (n : ℕ) (kd : Kind) → s'.pieces ≡ s.pieces → queue_kind s' n kd ≡ queue_kind s n kd
 queue-pieces s s' n (Small i t) e = refl
-queue-pieces s s' n (Sliced l a next) e = ap (λ (ps : List Flag). queue_at (λ j. (get_or ps (l * PIECES + j) no_piece).acked) next (pieces_of n)) e
+queue-pieces s s' n (Sliced l a next) e = ap (λ (ps : List Piece). queue_at (λ j. (get_or ps (l * PIECES + j) no_piece).acked) next (pieces_of n)) e
 
 -- an index that is not acknowledged is among them, and only such are
-pub in-open : (f : ℕ → Bool) (i n j : ℕ) → i ≤ j → j < i + n → f j ≡ false → In j (lacking f i n)
-unfolding lacking
+pub in-open : (f : ℕ → Bool) (i n j : ℕ) → i ≤ j → j < i + n → f j ≡ false → In j (open_from f i n)
+unfolding open_from
 in-open f i zero j a b e = absurd (omega arith)
 in-open f i (suc n) j a b e =
     by_place i j
     (λ q. let z : f i ≡ false = ap f (sym q) ∙ e in rw z (here q))
     (λ q. pick-cases (In j) (f i) (λ _. in-open f (i + 1) n j (omega arith) (omega arith) e) (λ _. there (in-open f (i + 1) n j (omega arith) (omega arith) e)))
 
-queue-open : (f : ℕ → Bool) (next n y : ℕ) → next ≤ n → In y (queue_at f next n) → In y (lacking f 0 n)
+queue-open : (f : ℕ → Bool) (next n y : ℕ) → next ≤ n → In y (queue_at f next n) → In y (open_from f 0 n)
 queue-open f next n y h i =
-    rw (open-append f 0 next next (n - next) n (omega arith) (omega arith)) (swap (in-cases (lacking f next (n - next)) (lacking f 0 next) i))
+    rw (open-append f 0 next next (n - next) n (omega arith) (omega arith)) (swap (in-cases (open_from f next (n - next)) (open_from f 0 next) i))
   where
-    swap : In y (lacking f next (n - next)) ⊎ In y (lacking f 0 next) → In y (lacking f 0 next ++ lacking f next (n - next))
-    swap (inl k) = in_right (lacking f 0 next) k
-    swap (inr k) = in_left (lacking f next (n - next)) k
+    swap : In y (open_from f next (n - next)) ⊎ In y (open_from f 0 next) → In y (open_from f 0 next ++ open_from f next (n - next))
+    swap (inl k) = in_right (open_from f 0 next) k
+    swap (inr k) = in_left (open_from f next (n - next)) k
 
 -- the acknowledged and the others are all
-pub counted : (ps : List Flag) (at n i : ℕ) → at + i + n ≤ length ps
-    → total (λ (p : Flag). pick p.acked 1 0) (take n (drop (at + i) ps)) + length (lacking (λ j. (get_or ps (at + j) no_piece).acked) i n) ≡ n
-unfolding total lacking
+pub counted : (ps : List Piece) (at n i : ℕ) → at + i + n ≤ length ps
+    → total (λ (p : Piece). pick p.acked 1 0) (take n (drop (at + i) ps)) + length (open_from (λ j. (get_or ps (at + j) no_piece).acked) i n) ≡ n
+unfolding total open_from
 counted ps at zero i h = refl
 counted ps at (suc n) i h =
     let z : at + (i + 1) ≡ suc (at + i) = omega arith in
     let r = rw z at (counted ps at n (i + 1) (omega arith)) in
     rw (drop-cons ps (at + i) no_piece (omega arith)) (tell (get_or ps (at + i) no_piece).acked r)
   where
-    tell : (b : Bool) → total (λ (p : Flag). pick p.acked 1 0) (take n (drop (suc (at + i)) ps)) + length (lacking (λ j. (get_or ps (at + j) no_piece).acked) (i + 1) n) ≡ n
-        → pick b 1 0 + total (λ (p : Flag). pick p.acked 1 0) (take n (drop (suc (at + i)) ps))
-        + length (pick b (lacking (λ j. (get_or ps (at + j) no_piece).acked) (i + 1) n) (i ∷ lacking (λ j. (get_or ps (at + j) no_piece).acked) (i + 1) n)) ≡ suc n
+    tell : (b : Bool) → total (λ (p : Piece). pick p.acked 1 0) (take n (drop (suc (at + i)) ps)) + length (open_from (λ j. (get_or ps (at + j) no_piece).acked) (i + 1) n) ≡ n
+        → pick b 1 0 + total (λ (p : Piece). pick p.acked 1 0) (take n (drop (suc (at + i)) ps))
+        + length (pick b (open_from (λ j. (get_or ps (at + j) no_piece).acked) (i + 1) n) (i ∷ open_from (λ j. (get_or ps (at + j) no_piece).acked) (i + 1) n)) ≡ suc n
     tell true e = omega arith
     tell false e = omega arith
 
-pub same-only : {x y : ℕ} (xs : List ℕ) → length xs ≡ 1 → In x xs → In y xs → x ≡ y
+same-only : {x y : ℕ} (xs : List ℕ) → length xs ≡ 1 → In x xs → In y xs → x ≡ y
 same-only (z ∷ zs) e (here p) (here q) = p ∙ sym q
 same-only (z ∷ zs) e (here p) (there q) = absurd (omega (arith, in-length q))
 same-only (z ∷ zs) e (there p) q = absurd (omega (arith, in-length p))
@@ -86,7 +85,7 @@ pub record Stays (s s' : SendChannelReliable) (r : Row) : Type 0 where
   pub head : live s' ≡ r ∷ rest
   pub queue : queue_of s' r ≡ queue_of s r
 
-pub record Loses (s s' : SendChannelReliable) (r : Row) (p : Piece) : Type 0 where
+pub record Loses (s s' : SendChannelReliable) (r : Row) (p : Part) : Type 0 where
   pub row : Row
   pub rest : List Row
   pub head : live s' ≡ row ∷ rest
@@ -126,7 +125,7 @@ module _ (s : SendChannelReliable) (v : Valid s) (r : Row) (rs : List Row) (h : 
       let d : m ≡ l → ⊥ = λ q. let z : get_or s.lanes l false ≡ false = rw (← q) free in let w = p.1 in let c : ◌≡◌ {A = ℕ} 0 1 = cc in omega arith in
       let e = length-replicate (pieces_of n) no_piece in
       queue-same _ _ next (pieces_of r.len) p.6
-      (λ j low. ap (λ (x : Flag). x.acked) (splice-away (m * PIECES) (replicate (pieces_of n) no_piece) s.pieces (l * PIECES + j) no_piece
+      (λ j low. ap (λ (x : Piece). x.acked) (splice-away (m * PIECES) (replicate (pieces_of n) no_piece) s.pieces (l * PIECES + j) no_piece
       (by-test (ltb l m) (λ t. inl (omega (arith, ltb-true l m t, p.3))) (λ t. inr (omega (arith, ltb-false l m t, d, e))))))
 
   sliced-queued : (m n : ℕ) → get_or s.lanes m false ≡ false → n ≤ s.settings.pieces * SLICE_SIZE → Stays s (add_sliced s m n) r
@@ -142,7 +141,7 @@ module _ (s : SendChannelReliable) (v : Valid s) (r : Row) (rs : List Row) (h : 
   -- ---- an ack
 
   -- what an ack of p does, where y waits
-  abbrev Heard : SendChannelReliable → Piece → ℕ → Type 0
+  abbrev Heard : SendChannelReliable → Part → ℕ → Type 0
   Heard s' p y = (p ≡ part_at r y) ⊎ (Stays s s' r ⊎ Loses s s' r p)
 
   -- the first row has the id where it is found there, and another row otherwise
@@ -169,17 +168,17 @@ module _ (s : SendChannelReliable) (v : Valid s) (r : Row) (rs : List Row) (h : 
           (f.0, take-set-le (s.count - 1) p (s.count - 1) no_row (omega arith) ∙ f.1 ∙ ap (λ (y : Row). y ∷ f.0) e)
 
   small_at : (x y k n i : ℕ) (t : Sending) → row_of s x ≡ k → k < s.count → (k ≡ 0 → kind_of r ≡ Small i t)
-      → Heard (without s k n (set s.cells i false) s.lanes) (piece x 0) y
-  small_at x y zero n i t e low q = inl (ap (λ (k : ℕ). piece k 0) (sym (found_first x e)) ∙ ap (λ (kd : Kind). part_kind_of r.id.0 kd y) (sym (q refl)))
+      → Heard (without s k n (set s.cells i false) s.lanes) (whole x) y
+  small_at x y zero n i t e low q = inl (ap whole (sym (found_first x e)) ∙ ap (λ (kd : Kind). part_kind_of r.id.0 kd y) (sym (q refl)))
   small_at x y (suc k) n i t e low q = inr (inl (without-behind k n _ _ low))
 
   -- the row that is found at the first place is the first
   is-first : (x : ℕ) → row_of s x ≡ 0 → found s x ≡ r
   is-first x e = ap (λ (k : ℕ). get_or s.rows k no_row) e ∙ first-row.2
 
-  pub small-heard : (x y : ℕ) → Heard (ack_small s x).state (piece x 0) y
+  pub small-heard : (x y : ℕ) → Heard (ack_small s x).state (whole x) y
   small-heard x y =
-      small_cases s x (λ (p : SendChannelReliable). Heard p (piece x 0) y) (inr (inl same-state))
+      small_cases s x (λ (p : SendChannelReliable). Heard p (whole x) y) (inr (inl same-state))
       (λ i t low e. small_at x y (row_of s x) (found s x).len i t refl low (λ z. ap (λ (row : Row). kind_of row) (sym (is-first x z)) ∙ e))
 
   -- the rows behind, by their places
@@ -191,7 +190,7 @@ module _ (s : SendChannelReliable) (v : Valid s) (r : Row) (rs : List Row) (h : 
 
   -- a piece of another message is acknowledged
   behind-flags : (k i m b c : ℕ) (kd : Kind) → kind_of r ≡ kd → suc k < s.count → kind_of (get_or s.rows (suc k) no_row) ≡ Sliced m b c
-      → i < pieces_of (get_or s.rows (suc k) no_row).len → PlacedKind s r.len kd → (q : Flag)
+      → i < pieces_of (get_or s.rows (suc k) no_row).len → PlacedKind s r.len kd → (q : Piece)
       → (s' : SendChannelReliable) → s'.pieces ≡ set s.pieces (m * PIECES + i) q → queue_kind s' r.len kd ≡ queue_kind s r.len kd
   behind-flags k i m b c (Small j t) e low g less p q s' ps = refl
   behind-flags k i m b c (Sliced l a next) e low g less p q s' ps =
@@ -200,8 +199,8 @@ module _ (s : SendChannelReliable) (v : Valid s) (r : Row) (rs : List Row) (h : 
       = subst (Other l (get_or s.rows (suc k) no_row).len) g
       (subst (λ (x : Row). Other l x.len (kind_of x)) w.1 (all-at (λ (x : Row). Other l x.len (kind_of x)) rs k no_row w.0 (others_apart s v r rs h l a next e))) in
       queue-same (acked_at s' l) (acked_at s l) next (pieces_of r.len) p.6
-      (λ j below. ap (λ (ys : List Flag). (get_or ys (l * PIECES + j) no_piece).acked) ps
-      ∙ ap (λ (x : Flag). x.acked) (get_or-set_other s.pieces (m * PIECES + i) (l * PIECES + j) q no_piece
+      (λ j below. ap (λ (ys : List Piece). (get_or ys (l * PIECES + j) no_piece).acked) ps
+      ∙ ap (λ (x : Piece). x.acked) (get_or-set_other s.pieces (m * PIECES + i) (l * PIECES + j) q no_piece
       (λ z. o.0 (omega (arith, o.2, less, below, p.3, v.settings.pieces-most)))))
 
   marked-behind : (k i m b c : ℕ) (row : Row) → suc k < s.count → get_or s.rows (suc k) no_row ≡ row → kind_of row ≡ Sliced m b c → i < pieces_of row.len
@@ -228,7 +227,7 @@ module _ (s : SendChannelReliable) (v : Valid s) (r : Row) (rs : List Row) (h : 
     last_one q w =
         let z : l * PIECES + 0 ≡ l * PIECES = omega arith in
         let c = rw z at (counted s.pieces (l * PIECES) (pieces_of r.len) 0 (omega (arith, room))) in
-        same-only (lacking (acked_at s l) 0 (pieces_of r.len)) (omega (arith, here-placed.4, c, q))
+        same-only (open_from (acked_at s l) 0 (pieces_of r.len)) (omega (arith, here-placed.4, c, q))
         (queue-open (acked_at s l) next (pieces_of r.len) y here-placed.6 (rw e at w))
         (in-open (acked_at s l) 0 (pieces_of r.len) i (omega arith) (omega arith) free)
 
@@ -244,8 +243,8 @@ module _ (s : SendChannelReliable) (v : Valid s) (r : Row) (rs : List Row) (h : 
           is-it = ap (λ (k : ℕ). piece k i) (sym q) ∙ ap (λ (kd : Kind). part_kind_of r.id.0 kd i) (sym e);
           queue =
               queue-rem (acked_at s l) (acked_at (marked s 0 l a next i r) l) i next (pieces_of r.len) here-placed.6
-              (ap (λ (p : Flag). p.acked) (get_or-set_same s.pieces (l * PIECES + i) _ no_piece (omega (arith, room))))
-              (λ k m d. ap (λ (p : Flag). p.acked) (get_or-set_other s.pieces (l * PIECES + i) (l * PIECES + k) _ no_piece (λ z. d (omega arith))))
+              (ap (λ (p : Piece). p.acked) (get_or-set_same s.pieces (l * PIECES + i) _ no_piece (omega (arith, room))))
+              (λ k m d. ap (λ (p : Piece). p.acked) (get_or-set_other s.pieces (l * PIECES + i) (l * PIECES + k) _ no_piece (λ z. d (omega arith))))
               ∙ ap (λ (kd : Kind). rem i (queue_kind s r.len kd)) (sym e);
         }
 

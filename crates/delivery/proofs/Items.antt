@@ -20,7 +20,7 @@ use Rattle.channel.specs.Settings.{lane_len_of, small_len_of, lanes_len_of}
 use Rattle.channel.proofs.Good.{lane-within}
 use Rattle.pack.specs.Pack.{Item, is_small, Pack, group, single, packed_len, pack}
 use Rattle.pack.specs.Laws.{WellPacked}
-use Rattle.pack.proofs.Theorems.{by-turns, well-says, well-packed}
+use Rattle.pack.proofs.Theorems.{by-turns, well-packed}
 use Rattle.send_reliable.specs.declared.Kind.{Kind}
 use Rattle.send_reliable.specs.declared.Kind.TheVariants.{Small, Sliced}
 use Rattle.send_reliable.specs.declared.Row.{Row}
@@ -28,7 +28,7 @@ use Rattle.send_reliable.specs.declared.SendChannelReliable.{SendChannelReliable
 use Rattle.send_reliable.specs.Sender.{last_sent_of, kind_of, no_row, no_piece, live, PlacedKind, Placed, Valid}
 use Rattle.send_reliable.specs.Select.{Visit, up_from, row_visits, visits_from, due, Chosen, visit_kind, visit, select}
 use Rattle.send_reliable.specs.Round.{Given, chosen}
-use Rattle.delivery.specs.Pair.{Bytes}
+use Rattle.delivery.specs.World.{Bytes}
 use Rattle.delivery.proofs.Walk.{Told, bare_kind, bare, kept-visit, up-low}
 use Rattle.delivery.proofs.Receiver.{Queued, PieceOf}
 use Rattle.delivery.proofs.Stored.{place_of, store_of, KindFits, RowHas, SenderHas, has-like, row_has}
@@ -207,7 +207,7 @@ packs-has q small lanes is =
     (λ sum a b. tt)
     (λ sum i is a b. (a, tt))
     (λ sum g x rest ps e r a b. (item-piece q small lanes x e b.0, r a b.1))
-    (λ sum g x rest ps e k r a b. (a, r (item-small q small lanes x e b.0, tt) b.1))
+    (λ sum g x rest ps e r a b. (a, r (item-small q small lanes x e b.0, tt) b.1))
     (λ sum g x rest ps e h r a b. r (all_snoc (SmallHas q small) g x a (item-small q small lanes x e b.0)) b.1)
     is 0 [] tt
 
@@ -230,10 +230,10 @@ FewIn (single x) = Unit
 pub packs-few : (is : List Item) → All FewIn (pack true is)
 packs-few is = all_map (WellPacked true) FewIn few (pack true is) (well-packed true is)
   where
-    at : (g : List Item) → (total (packed_len true) g ≤ SLICE_SIZE) ⊎ (length g ≡ 1) → length g ≤ MAX_MESSAGES
+    at : (g : List Item) → (total (packed_len true) g ≤ SLICE_SIZE) ⊎ (length g ≤ 1) → length g ≤ MAX_MESSAGES
     at g (inl h) = let a = count-total g in omega arith
     at g (inr h) = omega arith
 
     few : (p : Pack) → WellPacked true p → FewIn p
-    few (group g) w = at g (well-says true g w).1
+    few (group g) w = at g w
     few (single x) w = tt

@@ -1,6 +1,6 @@
 -- Laws of lists that know no channel: membership, what is taken out, a table of which entries are put anew. Assumes nothing.
 use Prim.Native.Nat.{ℕ, zero, suc, ◌+◌, ◌*◌, ◌≤◌, ◌<◌}
-use mathlib.Core.Path.{◌≡◌, refl, sym, ap, ◌∙◌, subst}
+use mathlib.Core.Path.{◌≡◌, refl, sym, ap, ◌∙◌}
 use mathlib.Core.Bool.{Bool, true, false}
 use mathlib.Core.List.{List, [], ◌∷◌, ◌++◌, map}
 use mathlib.Core.Logic.{◌⊎◌, inl, inr}
@@ -12,12 +12,12 @@ use lib.Seq.{get_or-set_other, get_or-take, get_or-drop, take-append-le, take-su
 use mathlib.Core.Option.{Option, none, some}
 use borrow.Author.Tests.{eqb-true}
 use Rattle.words.specs.Choice.{pick}
-use Rattle.words.specs.Lists.{first, splice, without, All, reached}
+use Rattle.words.specs.Lists.{splice, All, reached}
 use Rattle.words.proofs.Lists.{all_both}
 use native.Mathlib.Numerals.{add-one}
 use Rattle.words.proofs.Tables.{pick-cases, part-here, clash}
 use native.Mathlib.Nat.{suc-mul, mul-le-mul_right}
-use Rattle.delivery.specs.Rounds.{In, here, there}
+use Rattle.delivery.specs.Window.{In, here, there}
 
 -- true is not false
 pub never : {P : Type 0} (b : Bool) → b ≡ true → b ≡ false → P
@@ -175,11 +175,6 @@ module _ {A : Type 0} where
   at_low (y ∷ xs) zero e = omega arith
   at_low (y ∷ xs) (suc k) e = let r = at_low xs k e in omega arith
 
-  pub here-at : (xs : List A) (k : ℕ) (d : A) → k < length xs → get_elem? xs k ≡ some (get_or xs k d)
-  here-at [] k d h = absurd (omega arith)
-  here-at (y ∷ xs) zero d h = refl
-  here-at (y ∷ xs) (suc k) d h = here-at xs k d (omega arith)
-
   pub at-get_or : (xs : List A) (k : ℕ) (d : A) {x : A} → get_elem? xs k ≡ some x → get_or xs k d ≡ x
   at-get_or [] k d e = absurd (none≢some e)
   at-get_or (y ∷ xs) zero d e = cc
@@ -224,73 +219,3 @@ module _ {A : Type 0} where
 
   pub all-pair : (P Q : A → Type 0) (xs : List A) → All P xs → All Q xs → All (λ x. P x × Q x) xs
   all-pair P Q xs a b = all_both P Q (λ x. P x × Q x) (λ x p r. (p, r)) xs a b
-
--- ---- an element and its place
-
-module _ {A : Type 0} where
-  pub in_place : {x : A} (xs : List A) (d : A) → In x xs → (k : ℕ) × (k < length xs) × (get_or xs k d ≡ x)
-  in_place (y ∷ xs) d (here e) = (0, omega arith, sym e)
-  in_place (y ∷ xs) d (there h) = let r = in_place xs d h in (suc r.0, omega (arith, r.1), r.2)
-
-  pub place_in : (xs : List A) (k : ℕ) (d : A) → k < length xs → In (get_or xs k d) xs
-  place_in [] k d h = absurd (omega arith)
-  place_in (y ∷ xs) zero d h = here refl
-  place_in (y ∷ xs) (suc k) d h = there (place_in xs k d (omega arith))
-
-  pub at_in : (xs : List A) (k : ℕ) (x : A) → get_elem? xs k ≡ some x → In x xs
-  at_in [] k x e = absurd (none≢some e)
-  at_in (y ∷ xs) zero x e = let q : x ≡ y = cc in here q
-  at_in (y ∷ xs) (suc k) x e = there (at_in xs k x e)
-
-  pub all_in : (P : A → Type 0) (xs : List A) {x : A} → All P xs → In x xs → P x
-  unfolding All
-  all_in P (y ∷ xs) a (here e) = subst P (sym e) a.0
-  all_in P (y ∷ xs) a (there h) = all_in P xs a.1 h
-
-  -- an element, where the one at k goes or is put anew
-  pub in_without : {x : A} (xs : List A) (k : ℕ) (d : A) → In x xs → (x ≡ get_or xs k d) ⊎ In x (without k xs)
-  unfolding without
-  in_without (y ∷ xs) zero d (here e) = inl e
-  in_without (y ∷ xs) zero d (there h) = inr h
-  in_without (y ∷ xs) (suc k) d (here e) = inr (here e)
-  in_without {x} (y ∷ xs) (suc k) d (there h) = at (in_without xs k d h)
-    where
-      at : (x ≡ get_or xs k d) ⊎ In x (take k xs ++ drop (suc k) xs) → (x ≡ get_or xs k d) ⊎ In x (y ∷ take k xs ++ drop (suc k) xs)
-      at (inl e) = inl e
-      at (inr i) = inr (there i)
-
-  pub in-set : {x : A} (xs : List A) (k : ℕ) (v d : A) → In x xs → (x ≡ get_or xs k d) ⊎ In x (set xs k v)
-  in-set (y ∷ xs) zero v d (here e) = inl e
-  in-set (y ∷ xs) zero v d (there h) = inr (there h)
-  in-set (y ∷ xs) (suc k) v d (here e) = inr (here e)
-  in-set {x} (y ∷ xs) (suc k) v d (there h) = at (in-set xs k v d h)
-    where
-      at : (x ≡ get_or xs k d) ⊎ In x (set xs k v) → (x ≡ get_or xs k d) ⊎ In x (y ∷ set xs k v)
-      at (inl e) = inl e
-      at (inr i) = inr (there i)
-
-  pub set-in : (xs : List A) (k : ℕ) (v : A) → k < length xs → In v (set xs k v)
-  set-in [] k v h = absurd (omega arith)
-  set-in (y ∷ xs) zero v h = here refl
-  set-in (y ∷ xs) (suc k) v h = there (set-in xs k v (omega arith))
-
-  -- an element of a list with one more at the end
-  pub at-cases : (xs : List A) (y : A) (k : ℕ) {x : A} → get_elem? (xs ++ (y ∷ [])) k ≡ some x → (get_elem? xs k ≡ some x) ⊎ (k ≡ length xs)
-  at-cases [] y zero e = inr refl
-  at-cases [] y (suc k) e = absurd (none≢some e)
-  at-cases (z ∷ xs) y zero e = inl e
-  at-cases (z ∷ xs) y (suc k) {x} e = at (at-cases xs y k e)
-    where
-      at : (get_elem? xs k ≡ some x) ⊎ (k ≡ length xs) → (get_elem? xs k ≡ some x) ⊎ (suc k ≡ suc (length xs))
-      at (inl h) = inl h
-      at (inr h) = inr (ap suc h)
-
-  -- where a search goes past the end no element passes
-  pub none_passes : (p : A → Bool) (xs : List A) → length xs ≤ first p xs → All (λ x. p x ≡ false) xs
-  unfolding first All
-  none_passes p [] h = tt
-  none_passes p (x ∷ xs) h = at (p x) refl h (λ l. none_passes p xs l)
-    where
-      at : (b : Bool) → p x ≡ b → suc (length xs) ≤ pick b 0 (suc (first p xs)) → (length xs ≤ first p xs → All (λ y. p y ≡ false) xs) → (p x ≡ false) × All (λ y. p y ≡ false) xs
-      at true e l f = absurd (omega arith)
-      at false e l f = (e, f (omega arith))

@@ -1,158 +1,159 @@
--- The logs of every world that a new pair can reach: what the receiver took or ignored stays with it until it is handed out, each piece that it
--- took is one of a message that was queued, the sender heard only of such, and its table tells which. Assumes nothing.
-use mathlib.Core.Path.{◌≡◌, refl}
-use mathlib.Core.Bool.{Bool, true, false}
-use mathlib.Core.List.{List, [], ◌∷◌, ◌++◌}
+-- The logs of every world that a new pair can reach: what the receiver took or ignored stays with it until it is handed out, and what the sender
+-- has marked as acknowledged was taken. Assumes nothing.
+use Prim.Native.Nat.{ℕ, zero, suc}
+use mathlib.Core.Path.{◌≡◌, refl, sym, subst}
+use mathlib.Core.List.{List, [], ◌∷◌}
+use mathlib.Core.Logic.{◌⊎◌, inl, inr}
 use mathlib.Core.Option.{Option, none, some}
 use native.Mathlib.Omega.{arith}
 use lib.ListN.{length, get_elem?}
-use borrow.Author.Tests.{le-leb, lt-leb}
-use Rattle.words.specs.Sizes.{SLICE_SIZE}
-use Rattle.words.specs.Lists.{All}
-use Rattle.words.proofs.Lists.{all_map, all_snoc}
+use Rattle.words.specs.Lists.{reached, All}
+use Rattle.words.proofs.Lists.{all_map}
 use Rattle.words.proofs.Tables.{pick-cases}
 use Rattle.receive_reliable.specs.Receive as r
-use Rattle.delivery.specs.Pair.{Bytes, Setup}
-use Rattle.delivery.specs.Calls.{Piece, Entry, message, slice, piece_told, spot_now, sends, given_now, goes, writes, unrefused, ack_now, marks, answers, ours}
-use Rattle.delivery.specs.World.{Event, queues, rounds, reads, hands, looks, takes, hears, World, new, noted, queueing, rounding, reading, entry_at, took_now, handing, taking, hearing, is_small, small_now, hand_now, hear_now, step_with, run_with, step, run}
-use Rattle.delivery.specs.Rounds.{In, piece_count}
-use Rattle.delivery.proofs.Lists.{in_left, at_more, at_in, all_in}
-use Rattle.delivery.proofs.Receiver.{Sound}
-use Rattle.delivery.proofs.Good.{Good, queued-more, entry-sound, step-good}
-use Rattle.delivery.proofs.Tied.{Known, Tied, tied-new, queue-tied, ack-tied, round-tied}
+use Rattle.delivery.specs.World.{Bytes, Part, whole, piece, Handed, message, slice, Receiving, World, Setup, new, Event, queues, rounds, arrives, looks, takes, hears, given_now, goes, queueing, sending, handed, noting, fault_of, read_with, receives, took_now, arriving, taking, hearing, step, run}
+use Rattle.delivery.specs.Window.{In, here, there, optional, acked_now, acked_in}
+use Rattle.delivery.proofs.Lists.{in_left, in-cases}
+use Rattle.delivery.proofs.Receiver.{Sound, Has, receives-has}
+use Rattle.delivery.proofs.Good.{WireHas, Good, wire-sound, wire-at, step-good}
 use Rattle.delivery.proofs.Taken.{ArrivedAt, LogHas, take_on, receives-on, receives-logs}
+use Rattle.delivery.proofs.Acked.{AckedIn, acked-new, acked-more, queue-acked, ack-acked, round-acked}
 
 pub record Logged (w : World) : Type 0 where
-  pub logs : LogHas w.receiver.state w.took w.ignored
-  pub known : All (Known w.queued) w.took
-  pub taken : All (λ (p : Piece). In p w.took) w.heard
-  pub tied : Tied w.queued w.heard w.sender.state
+  pub logs : LogHas w.receiver
+  pub acked : AckedIn w.receiver.took w.sender.state
 
--- ---- what is handed over is a piece of what was queued
+-- ---- all that a packet hands over
 
-pub known-told : (q : List Bytes) (x : Entry) → Sound q x → Known q (piece_told x)
-known-told q (message id bs) h =
-    let t : is_small bs ≡ true = le-leb (length bs) SLICE_SIZE h.1 in
-    let one : piece_count bs ≡ 1 = rw t in
-    record { msg = bs; queued = h.0; index = omega arith }
-known-told q (slice id num i bs) h =
-    let t : is_small h.msg ≡ false = lt-leb (length h.msg) SLICE_SIZE h.long in
-    record { msg = h.msg; queued = h.queued; index = rw t (omega (arith, h.low, h.num-is)) }
+all-logs : (q : List Bytes) (xs : List Handed) (e : Receiving) → All (Sound q) xs → Has q e.state e.small e.lanes → LogHas e → LogHas (reached receives e xs)
+unfolding reached All
+all-logs q [] e a h l = l
+all-logs q (x ∷ xs) e a h l = all-logs q xs (receives e x) a.1 (receives-has q e x a.0 h) (receives-logs e h.valid l x)
 
-known_more : (q more : List Bytes) (p : Piece) → Known q p → Known (q ++ more) p
-known_more q more p h = record { msg = h.msg; queued = at_more q more p.number h.queued; index = h.index }
+all-on : (q : List Bytes) (xs : List Handed) (e : Receiving) → All (Sound q) xs → Has q e.state e.small e.lanes → (p : Part) → ArrivedAt e.state p
+    → ArrivedAt (reached receives e xs).state p
+unfolding reached All
+all-on q [] e a h p k = k
+all-on q (x ∷ xs) e a h p k = all-on q xs (receives e x) a.1 (receives-has q e x a.0 h) p (receives-on e h.valid x p k)
 
--- ---- the log of what was taken grows
-
-took_more : (o : r.Outcome) (p x : Piece) (ps : List Piece) → In p ps → In p (took_now o x ps)
+-- the log of what was taken grows
+took_more : (o : r.Outcome) (p x : Part) (ps : List Part) → In p ps → In p (took_now o x ps)
 took_more r.taken p x ps h = in_left (x ∷ []) h
 took_more r.ignored p x ps h = h
 took_more (r.refused e) p x ps h = h
 
-took-known : (q : List Bytes) (o : r.Outcome) (x : Piece) (ps : List Piece) → Known q x → All (Known q) ps → All (Known q) (took_now o x ps)
-took-known q r.taken x ps k a = all_snoc _ ps x a k
-took-known q r.ignored x ps k a = a
-took-known q (r.refused e) x ps k a = a
+pub receives-took : (e : Receiving) (x : Handed) (p : Part) → In p e.took → In p (receives e x).took
+unfolding receives
+receives-took e (message id bs) p h = took_more (r.message_answer_of (r.message_spot e.state id (length bs) (length e.small) (length e.lanes))) p (whole id) e.took h
+receives-took e (slice id num i bs) p h = took_more (r.slice_answer_of (r.slice_spot e.state id num i (length bs) (length e.small) (length e.lanes))) p (piece id i) e.took h
+
+pub all-took : (xs : List Handed) (e : Receiving) (p : Part) → In p e.took → In p (reached receives e xs).took
+unfolding reached
+all-took [] e p h = h
+all-took (x ∷ xs) e p h = all-took xs (receives e x) p (receives-took e x p h)
+
+at_in : {A : Type 0} (xs : List A) (k : ℕ) (x : A) → get_elem? xs k ≡ some x → In x xs
+at_in [] k x e = absurd (let z : ◌≡◌ {A = ℕ} 0 1 = cc in omega arith)
+at_in (y ∷ xs) zero x e = let q : x ≡ y = cc in here q
+at_in (y ∷ xs) (suc k) x e = there (at_in xs k x e)
 
 -- ---- in every world
 
 pub new-logged : (u : Setup) → Logged (new u)
 unfolding new All
-new-logged u = record { logs = record { took = tt; ignored = tt }; known = tt; taken = tt; tied = tied-new u.channel u.sending u.resend }
+new-logged u = record { logs = record { took = tt; ignored = tt }; acked = acked-new [] u.channel u.sending u.resend }
 
-hand-logged : (o : Option Entry) (w : World) → Good w → Logged w → ((x : Entry) → o ≡ some x → Sound w.queued x) → Logged (hand_now ours o w)
-unfolding handing
-hand-logged none w g l h = l
-hand-logged (some x) w g l h =
+arrive-logged : (o : Option Bytes) (ms rs : List ℕ) (w : World) → Good w → Logged w → ((bs : Bytes) → o ≡ some bs → WireHas w.queued bs) → Logged (arriving o ms rs w)
+unfolding arriving
+arrive-logged none ms rs w g l h = l
+arrive-logged (some bs) ms rs w g l h =
+    let e = noting (fault_of (read_with bs ms rs)) w.receiver in
     record {
-      logs = receives-logs w.receiver g.received.valid w.took w.ignored l.logs x;
-      known = took-known w.queued (answers w.receiver x) (piece_told x) w.took (known-told w.queued x (h x refl)) l.known;
-      taken = all_map _ _ (λ p i. took_more (answers w.receiver x) p (piece_told x) w.took i) w.heard l.taken;
-      tied = l.tied;
-    }
-
-noted-taken : (b : Bool) (ps hs : List Piece) (p : Piece) → In p ps → All (λ (x : Piece). In x ps) hs → All (λ (x : Piece). In x ps) (noted b p hs)
-noted-taken true ps hs p i a = all_snoc _ hs p a i
-noted-taken false ps hs p i a = a
-
-hear-logged : (o : Option Piece) (w : World) → Good w → Logged w → ((p : Piece) → o ≡ some p → In p w.took) → Logged (hear_now ours o w)
-unfolding hearing marks
-hear-logged none w g l h = l
-hear-logged (some p) w g l h =
-    record {
-      logs = l.logs;
-      known = l.known;
-      taken = noted-taken (unrefused (ack_now (small_now w p) p w.sender.state).answer) w.took w.heard p (h p refl) l.taken;
-      tied =
-          ack-tied w.queued w.heard w.sender.state g.sender.valid l.tied w.sender.small w.sender.lanes g.stored p
-          (all_in (Known w.queued) w.took l.known (h p refl)) (small_now w p) refl;
+      logs = all-logs w.queued (handed bs ms rs) e (wire-sound w.queued bs (h bs refl) ms rs) g.received (record { took = l.logs.took; ignored = l.logs.ignored });
+      acked = acked-more w.receiver.took _ w.sender.state (λ p i. all-took (handed bs ms rs) e p i) l.acked;
     }
 
 pub step-logged : (ev : Event) (w : World) → Good w → Logged w → Logged (step ev w)
-unfolding step_with queueing sends rounding writes reading taking
-step-logged (queues msg) w g l =
-    let m = queued-more (spot_now msg w.sender) msg w.queued in
-    record {
-      logs = l.logs;
-      known = rw m.1 (all_map _ _ (known_more w.queued m.0) w.took l.known);
-      taken = l.taken;
-      tied = queue-tied w.queued w.heard w.sender.state g.sender.valid l.tied msg g.stored.next (length w.sender.small) (length w.sender.lanes);
-    }
+unfolding step queueing sending taking hearing
+step-logged (queues msg) w g l = record { logs = l.logs; acked = queue-acked w.receiver.took w.sender.state g.sender.valid l.acked (length msg) _ _ }
 step-logged (rounds seq now allowance out table) w g l =
     pick-cases Logged (goes w.sender.state (given_now seq now allowance w.sender) out table)
-    (λ _. record {
-      logs = l.logs;
-      known = l.known;
-      taken = l.taken;
-      tied = round-tied w.queued w.heard w.sender.state g.sender.valid l.tied (given_now seq now allowance w.sender);
-    })
+    (λ _. record { logs = l.logs; acked = round-acked w.receiver.took w.sender.state g.sender.valid l.acked (given_now seq now allowance w.sender) })
     (λ _. l)
-step-logged (reads k behind ms rs) w g l = at (get_elem? w.wire k)
-  where
-    at : (o : Option Bytes) → Logged (reading o behind ms rs w)
-    at none = l
-    at (some bs) = record { logs = l.logs; known = l.known; taken = l.taken; tied = l.tied }
-step-logged (hands j i) w g l = hand-logged (entry_at w.read j i) w g l (λ x e. entry-sound w.queued w.read j i g.read e)
+step-logged (arrives k ms rs) w g l = arrive-logged (get_elem? w.wire k) ms rs w g l (λ bs e. wire-at w.queued w.wire k e g.wire)
 step-logged looks w g l = l
 step-logged takes w g l =
     record {
       logs = record {
-        took = all_map _ _ (take_on w.receiver.state g.received.valid) w.took l.logs.took;
-        ignored = all_map _ _ (take_on w.receiver.state g.received.valid) w.ignored l.logs.ignored;
+        took = all_map _ _ (take_on w.receiver.state g.received.valid) w.receiver.took l.logs.took;
+        ignored = all_map _ _ (take_on w.receiver.state g.received.valid) w.receiver.ignored l.logs.ignored;
       };
-      known = l.known;
-      taken = l.taken;
-      tied = l.tied;
+      acked = l.acked;
     }
-step-logged (hears k) w g l = hear-logged (get_elem? w.took k) w g l (λ p e. at_in w.took k p e)
+step-logged (hears k) w g l =
+    record {
+      logs = l.logs;
+      acked = ack-acked w.receiver.took w.sender.state g.sender.valid l.acked (get_elem? w.receiver.took k) (λ p e. at_in w.receiver.took k p e);
+    }
+
+-- what arrived stays
+arrive-on : (o : Option Bytes) (ms rs : List ℕ) (w : World) → Good w → ((bs : Bytes) → o ≡ some bs → WireHas w.queued bs) → (p : Part) → ArrivedAt w.receiver.state p
+    → ArrivedAt (arriving o ms rs w).receiver.state p
+unfolding arriving
+arrive-on none ms rs w g h p k = k
+arrive-on (some bs) ms rs w g h p k = all-on w.queued (handed bs ms rs) (noting (fault_of (read_with bs ms rs)) w.receiver) (wire-sound w.queued bs (h bs refl) ms rs) g.received p k
+
+step-on : (ev : Event) (w : World) → Good w → (p : Part) → ArrivedAt w.receiver.state p → ArrivedAt (step ev w).receiver.state p
+unfolding step queueing sending taking hearing
+step-on (queues msg) w g p k = k
+step-on (rounds seq now allowance out table) w g p k =
+    pick-cases (λ (x : World). ArrivedAt x.receiver.state p) (goes w.sender.state (given_now seq now allowance w.sender) out table) (λ _. k) (λ _. k)
+step-on (arrives n ms rs) w g p k = arrive-on (get_elem? w.wire n) ms rs w g (λ bs e. wire-at w.queued w.wire n e g.wire) p k
+step-on looks w g p k = k
+step-on takes w g p k = take_on w.receiver.state g.received.valid p k
+step-on (hears n) w g p k = k
+
+arrive-took : (o : Option Bytes) (ms rs : List ℕ) (w : World) (p : Part) → In p w.receiver.took → In p (arriving o ms rs w).receiver.took
+unfolding arriving
+arrive-took none ms rs w p h = h
+arrive-took (some bs) ms rs w p h = all-took (handed bs ms rs) (noting (fault_of (read_with bs ms rs)) w.receiver) p h
+
+pub step-took : (ev : Event) (w : World) (p : Part) → In p w.receiver.took → In p (step ev w).receiver.took
+unfolding step queueing sending taking hearing
+step-took (queues msg) w p h = h
+step-took (rounds seq now allowance out table) w p h =
+    pick-cases (λ (x : World). In p x.receiver.took) (goes w.sender.state (given_now seq now allowance w.sender) out table) (λ _. h) (λ _. h)
+step-took (arrives k ms rs) w p h = arrive-took (get_elem? w.wire k) ms rs w p h
+step-took looks w p h = h
+step-took takes w p h = h
+step-took (hears k) w p h = h
+
+pub run-took : (evs : List Event) (w : World) (p : Part) → In p w.receiver.took → In p (run evs w).receiver.took
+unfolding run
+run-took [] w p h = h
+run-took (ev ∷ evs) w p h = run-took evs (step ev w) p (step-took ev w p h)
+
+-- what the sender hears of was taken
+now-took : (ev : Event) (w : World) (p : Part) → In p (acked_now ev w) → In p w.receiver.took
+now-took (hears k) w p h = at (get_elem? w.receiver.took k) refl h
+  where
+    at : (o : Option Part) → get_elem? w.receiver.took k ≡ o → In p (optional o) → In p w.receiver.took
+    at (some x) e (here q) = subst (λ (y : Part). In y w.receiver.took) (sym q) (at_in w.receiver.took k x e)
+
+pub acked-took : (evs : List Event) (w : World) (p : Part) → In p (acked_in evs w) → In p (run evs w).receiver.took
+unfolding run acked_in
+acked-took (ev ∷ evs) w p h = at (in-cases (acked_now ev w) (acked_in evs (step ev w)) h) (λ k. acked-took evs (step ev w) p k)
+  where
+    at : In p (acked_now ev w) ⊎ In p (acked_in evs (step ev w)) → (In p (acked_in evs (step ev w)) → In p (run evs (step ev w)).receiver.took) → In p (run evs (step ev w)).receiver.took
+    at (inl k) f = run-took evs (step ev w) p (step-took ev w p (now-took ev w p k))
+    at (inr k) f = f k
 
 pub run-logged : (evs : List Event) (w : World) → Good w → Logged w → Logged (run evs w)
-unfolding run_with
+unfolding run
 run-logged [] w g l = l
 run-logged (ev ∷ evs) w g l = run-logged evs (step ev w) (step-good ev w g) (step-logged ev w g l)
 
--- ---- what arrived stays
-
-hand_on : (o : Option Entry) (w : World) → Good w → (p : Piece) → ArrivedAt w.receiver.state p → ArrivedAt (hand_now ours o w).receiver.state p
-unfolding handing
-hand_on none w g p k = k
-hand_on (some x) w g p k = receives-on w.receiver g.received.valid x p k
-
-pub step-on : (ev : Event) (w : World) → Good w → (p : Piece) → ArrivedAt w.receiver.state p → ArrivedAt (step ev w).receiver.state p
-unfolding step_with queueing rounding reading taking hearing
-step-on (queues msg) w g p k = k
-step-on (rounds seq now allowance out table) w g p k =
-    pick-cases (λ (x : World). ArrivedAt x.receiver.state p) (ours.round seq now allowance out table w.sender).accepted (λ _. k) (λ _. k)
-step-on (reads n behind ms rs) w g p k = at (get_elem? w.wire n)
-  where
-    at : (o : Option Bytes) → ArrivedAt (reading o behind ms rs w).receiver.state p
-    at none = k
-    at (some bs) = k
-step-on (hands j i) w g p k = hand_on (entry_at w.read j i) w g p k
-step-on looks w g p k = k
-step-on takes w g p k = take_on w.receiver.state g.received.valid p k
-step-on (hears n) w g p k = at (get_elem? w.took n)
-  where
-    at : (o : Option Piece) → ArrivedAt (hear_now ours o w).receiver.state p
-    at none = k
-    at (some x) = k
+pub run_on : (evs : List Event) (w : World) → Good w → (p : Part) → ArrivedAt w.receiver.state p → ArrivedAt (run evs w).receiver.state p
+unfolding run
+run_on [] w g p k = k
+run_on (ev ∷ evs) w g p k = run_on evs (step ev w) (step-good ev w g) p (step-on ev w g p k)

@@ -1,38 +1,46 @@
--- The premise of demand 3's last sentence is met: where the receiver has room for all that was ever queued, no piece is refused. Assumes nothing.
-use Prim.Native.Nat.{ℕ, ◌+◌, ◌*◌, ◌≤◌}
+-- The premise of demand 3's last sentence is met: where the receiver has room for all that was ever queued, no arrival is refused. Assumes nothing.
+use Prim.Native.Nat.{ℕ, zero, suc, ◌+◌, ◌*◌, ◌≤◌}
 use mathlib.Core.Path.{◌≡◌, refl, sym, ap, ◌∙◌, subst}
-use mathlib.Core.Bool.{true}
-use mathlib.Core.List.{List, [], ◌∷◌, ◌++◌}
+use mathlib.Core.Bool.{Bool, true, false}
+use mathlib.Core.List.{List, [], ◌∷◌, ◌++◌, append_assoc}
 use mathlib.Core.Option.{Option, none, some}
 use native.Mathlib.Omega.{arith}
-use lib.ListN.{length, get_elem?}
-use Rattle.words.specs.Sizes.{SLICE_SIZE, LIMIT}
-use Rattle.words.specs.Lists.{total, All}
+use lib.ListN.{length, get_elem?, replicate}
+use Rattle.words.specs.Sizes.{SLICE_SIZE, SLOTS, LANES}
+use Rattle.words.specs.Choice.{pick}
+use Rattle.words.specs.Lists.{holds, total, All, Pairs}
 use Rattle.words.proofs.Lists.{all_snoc, all-at}
 use Rattle.words.proofs.Tables.{pick-cases}
 use Rattle.channel.specs.declared.Settings.{Settings}
-use Rattle.octets.specs.Reader.{ok}
+use Rattle.octets.specs.Reader.{Res, ok, fault}
 use Rattle.packet.specs.Packet as reader
 use Rattle.receive_reliable.specs.Receive as r
 use Rattle.receive_reliable.specs.declared.ReceiveChannelReliable.{ReceiveChannelReliable}
 use Rattle.send_reliable.specs.declared.SendChannelReliable.{SendChannelReliable}
 use Rattle.send_reliable.specs.Sender.{new_of, Valid}
-use Rattle.send_reliable.specs.Queue.{Spot, spot_of}
-use Rattle.delivery.specs.Pair.{Bytes, Receiving, Setup}
-use Rattle.delivery.specs.Calls.{Piece, Entry, piece_told, spot_now, sends, ours}
-use Rattle.delivery.specs.World.{Event, queues, rounds, reads, hands, looks, takes, hears, World, new, queueing, rounding, reading, entry_at, handing, taking, hearing, hand_now, hear_now, step_with, run_with, step, run}
-use Rattle.delivery.specs.Premise.{Fits, TabledNow, Tabled, PremiseHolds}
+use Rattle.send_reliable.specs.Queue as q
+use Rattle.send_reliable.specs.Queue.{Spot, cell, lane, spot_of, state_at, add_small, add_sliced}
+use Rattle.send_reliable.specs.Round.{state_after}
+use Rattle.delivery.specs.World.{Bytes, Part, whole, piece, World, Setup, new, Event, queues, rounds, arrives, looks, takes, hears, given_now, goes, spot_now, queued_at, queueing, sending, handed, noting, fault_of, read_with, arriving, taking, ack_of, hearing, step, run}
+use Rattle.delivery.specs.Statements.{Fits, TabledNow, Tabled, PremiseHolds}
 use Rattle.delivery.proofs.Lists.{append-nil, at_low, at-get_or}
-use Rattle.delivery.proofs.Receiver.{Sound}
-use Rattle.delivery.proofs.Stored.{queued_at}
-use Rattle.delivery.proofs.Read.{read-judged}
-use Rattle.delivery.proofs.Good.{WireHas, Good, queued-more, wire-at, entry-sound, back_alone, new-good, step-good}
-use Rattle.delivery.proofs.Counts.{charge_of, small_of, sliced_of}
-use Rattle.delivery.proofs.Unrefused.{Rooms, receives-const, receives-unrefused}
-use Rattle.delivery.proofs.Tidy.{Tidy, new-tidy, receives-tidy, take-tidy}
-use Rattle.delivery.proofs.Room.{rooms-from}
-use Rattle.delivery.proofs.Grows.{step-fixed, run-grows}
-use Rattle.delivery.proofs.Cases.{spot-cases}
+use Rattle.delivery.proofs.Good.{WireHas, Good, queued-more, wire-sound, wire-at, new-good, step-good, arrive-queued}
+use Rattle.delivery.proofs.Counts.{charge_of, small_of, sliced_of, Counts, counts-more, take-counts}
+use Rattle.delivery.proofs.Unrefused.{Roomy, all-counts, all-const, all-unrefused}
+use Rattle.delivery.proofs.Cases.{spot-cases, small_cases, piece-cases}
+
+-- ---- the sender's settings stay
+
+stays-queue : (s : SendChannelReliable) (n : ℕ) (x : Spot) → (state_at s n x).settings ≡ s.settings
+unfolding add_small add_sliced
+stays-queue s n (q.cell i) = refl
+stays-queue s n (q.lane l) = refl
+stays-queue s n (q.refused e) = refl
+
+stays-ack : (s : SendChannelReliable) (o : Option Part) → (ack_of o s).settings ≡ s.settings
+stays-ack s none = refl
+stays-ack s (some (whole x)) = small_cases s x (λ (t : SendChannelReliable). t.settings ≡ s.settings) refl (λ i t low e. refl)
+stays-ack s (some (piece x i)) = piece-cases s x (λ (t : SendChannelReliable). t.settings ≡ s.settings) refl i (λ l a next _ _. refl) (λ l a next _ _. refl)
 
 -- each queued message is within the piece limit
 abbrev Short : Settings → Bytes → Type 0
@@ -54,7 +62,7 @@ pub record SetUp (u : Setup) (w : World) : Type 0 where
   pub small : length w.receiver.small ≡ length u.receiver-small
   pub lanes : length w.receiver.lanes ≡ length u.receiver-lanes
   pub short : All (Short u.sending) w.queued
-  pub tidy : Tidy w.receiver.state
+  pub counts : Counts w.queued w.receiver.state
 
 take-settings : (s : ReceiveChannelReliable) → (r.after_take s).settings ≡ s.settings
 unfolding r.after_take r.without_cell r.without_lane
@@ -62,8 +70,13 @@ take-settings s =
     pick-cases (λ (x : ReceiveChannelReliable). x.settings ≡ s.settings) (r.in_cell_of s s.oldest_pending_message_id) (λ _. refl)
     (λ _. pick-cases (λ (x : ReceiveChannelReliable). x.settings ≡ s.settings) (r.is_held s s.oldest_pending_message_id) (λ _. refl) (λ _. refl))
 
+none-holds : (n : ℕ) → holds (replicate n false) ≤ 0
+unfolding holds
+none-holds zero = omega arith
+none-holds (suc n) = none-holds n
+
 pub new-set : (u : Setup) → SetUp u (new u)
-unfolding new new_of r.new_of All
+unfolding new new_of r.new_of All total Pairs
 new-set u =
     record {
       sending = refl;
@@ -71,41 +84,30 @@ new-set u =
       small = refl;
       lanes = refl;
       short = tt;
-      tidy = new-tidy u.receiving;
+      counts = record { ids = []; apart = tt; low = tt; started = tt; memory = omega arith; cells = none-holds SLOTS; lanes = none-holds LANES };
     }
 
--- only queueing, handing over and taking matter
-same_set : (u : Setup) (w w' : World) → SetUp u w → w'.sender.state.settings ≡ w.sender.state.settings → w'.receiver ≡ w.receiver → w'.queued ≡ w.queued → SetUp u w'
-same_set u w w' t e f q =
-    record {
-      sending = e ∙ t.sending;
-      receiving = ap (λ (x : Receiving). x.state.settings) f ∙ t.receiving;
-      small = ap (λ (x : Receiving). length x.small) f ∙ t.small;
-      lanes = ap (λ (x : Receiving). length x.lanes) f ∙ t.lanes;
-      short = rw q t.short;
-      tidy = rw f t.tidy;
-    }
-
-hand-set : (u : Setup) (o : Option Entry) (w : World) → Good w → SetUp u w → ((x : Entry) → o ≡ some x → Sound w.queued x) → SetUp u (hand_now ours o w)
-unfolding handing
-hand-set u none w g t h = t
-hand-set u (some x) w g t h =
-    let c = receives-const w.receiver x in
+arrive-set : (u : Setup) (o : Option Bytes) (ms rs : List ℕ) (w : World) → Good w → SetUp u w → ((bs : Bytes) → o ≡ some bs → WireHas w.queued bs) → SetUp u (arriving o ms rs w)
+unfolding arriving
+arrive-set u none ms rs w g t h = t
+arrive-set u (some bs) ms rs w g t h =
+    let e = noting (fault_of (read_with bs ms rs)) w.receiver in
+    let c = all-const (handed bs ms rs) e in
     record {
       sending = t.sending;
       receiving = c.settings ∙ t.receiving;
       small = c.small ∙ t.small;
       lanes = c.lanes ∙ t.lanes;
       short = t.short;
-      tidy = receives-tidy w.receiver g.received.valid t.tidy x;
+      counts = all-counts w.queued (handed bs ms rs) e (wire-sound w.queued bs (h bs refl) ms rs) g.received t.counts;
     }
 
 pub step_set : (u : Setup) (ev : Event) (w : World) → Good w → SetUp u w → SetUp u (step ev w)
-unfolding step_with queueing sends rounding reading taking hearing
+unfolding step queueing sending taking hearing state_after
 step_set u (queues msg) w g t =
     let m = queued-more (spot_now msg w.sender) msg w.queued in
     record {
-      sending = (step-fixed (queues msg) w).settings ∙ t.sending;
+      sending = stays-queue w.sender.state (length msg) (spot_now msg w.sender) ∙ t.sending;
       receiving = t.receiving;
       small = t.small;
       lanes = t.lanes;
@@ -113,19 +115,13 @@ step_set u (queues msg) w g t =
           subst (λ (st : Settings). All (Short st) (queued_at (spot_now msg w.sender) msg w.queued)) t.sending
           (queue-short w.sender.state g.sender.valid msg (length w.sender.small) (length w.sender.lanes) w.queued
           (subst (λ (st : Settings). All (Short st) w.queued) (sym t.sending) t.short));
-      tidy = t.tidy;
+      counts = rw m.1 (counts-more w.queued m.0 w.receiver.state t.counts);
     }
 step_set u (rounds seq now allowance out table) w g t =
-    let f = (step-fixed (rounds seq now allowance out table) w).settings in
-    same_set u w _ t f
-    (pick-cases (λ (x : World). x.receiver ≡ w.receiver) (ours.round seq now allowance out table w.sender).accepted (λ _. refl) (λ _. refl))
-    (pick-cases (λ (x : World). x.queued ≡ w.queued) (ours.round seq now allowance out table w.sender).accepted (λ _. refl) (λ _. refl))
-step_set u (reads k behind ms rs) w g t = at (get_elem? w.wire k)
-  where
-    at : (o : Option Bytes) → SetUp u (reading o behind ms rs w)
-    at none = t
-    at (some bs) = same_set u w _ t refl refl refl
-step_set u (hands j i) w g t = hand-set u (entry_at w.read j i) w g t (λ x e. entry-sound w.queued w.read j i g.read e)
+    pick-cases (SetUp u) (goes w.sender.state (given_now seq now allowance w.sender) out table)
+    (λ _. record { sending = t.sending; receiving = t.receiving; small = t.small; lanes = t.lanes; short = t.short; counts = t.counts })
+    (λ _. t)
+step_set u (arrives k ms rs) w g t = arrive-set u (get_elem? w.wire k) ms rs w g t (λ bs e. wire-at w.queued w.wire k e g.wire)
 step_set u looks w g t = t
 step_set u takes w g t =
     record {
@@ -134,133 +130,105 @@ step_set u takes w g t =
       small = t.small;
       lanes = t.lanes;
       short = t.short;
-      tidy = take-tidy w.queued w.receiver.state w.receiver.small w.receiver.lanes g.received t.tidy;
+      counts = take-counts w.queued w.receiver.state g.received.valid t.counts;
     }
-step_set u (hears k) w g t = at (get_elem? w.took k) (step-fixed (hears k) w).settings
-  where
-    at : (o : Option Piece) → (hear_now ours o w).sender.state.settings ≡ w.sender.state.settings → SetUp u (hear_now ours o w)
-    at none e = t
-    at (some p) e = same_set u w _ t e refl refl
+step_set u (hears k) w g t =
+    record {
+      sending = stays-ack w.sender.state (get_elem? w.receiver.took k) ∙ t.sending;
+      receiving = t.receiving;
+      small = t.small;
+      lanes = t.lanes;
+      short = t.short;
+      counts = t.counts;
+    }
 
--- ---- where there is room for all that is ever queued
+-- ---- more is queued, and so it takes more
 
 total-append : (f : Bytes → ℕ) (xs ys : List Bytes) → total f (xs ++ ys) ≡ total f xs + total f ys
 unfolding total
 total-append f [] ys = omega arith
 total-append f (x ∷ xs) ys = let r = total-append f xs ys in omega arith
 
-pub short-is : (u : Setup) (w : World) → SetUp u w → (id : ℕ) (msg : Bytes) → get_elem? w.queued id ≡ some msg → length msg ≤ u.sending.pieces * SLICE_SIZE
-short-is u w t id msg queued =
-    subst (Short u.sending) (at-get_or w.queued id [] queued) (all-at (Short u.sending) w.queued id [] (at_low w.queued id queued) t.short)
+abbrev pub More : World → World → Type 0
+More w w' = (more : List Bytes) × (w'.queued ≡ w.queued ++ more)
 
-pub few-numbers : (w : World) → Good w → length w.queued ≤ LIMIT
-few-numbers w g = omega (arith, g.stored.next, g.sender.valid.next-most)
+pub none_more : (ms : List Bytes) → (more : List Bytes) × (ms ≡ ms ++ more)
+none_more ms = ([], sym (append-nil ms))
 
-rooms : (u : Setup) (w : World) → Good w → SetUp u w → (more : List Bytes) → Fits u (w.queued ++ more) → Rooms w.queued w.receiver
-rooms u w g t more f =
-    rooms-from w.queued w.receiver g.received t.tidy 0 (omega arith)
-    (let z = total-append charge_of w.queued more in omega (arith, f.memory, ap (λ (st : Settings). st.max_memory_usage_bytes) t.receiving))
-    (let z = total-append small_of w.queued more in omega (arith, f.small, ap (λ (st : Settings). st.slots) t.receiving))
-    (let z = total-append sliced_of w.queued more in omega (arith, f.sliced, ap (λ (st : Settings). st.lanes) t.receiving))
-    (rw (t.receiving, t.small, t.lanes) f.stores) (few-numbers w g)
-    (λ id msg queued. let x = short-is u w t id msg queued in omega (arith, f.pieces, ap (λ (st : Settings). st.pieces) t.receiving))
+step-more : (ev : Event) (w : World) → More w (step ev w)
+unfolding step queueing sending taking hearing
+step-more (queues msg) w = queued-more (spot_now msg w.sender) msg w.queued
+step-more (rounds seq now allowance out table) w =
+    pick-cases (More w) (goes w.sender.state (given_now seq now allowance w.sender) out table) (λ _. none_more w.queued) (λ _. none_more w.queued)
+step-more (arrives k ms rs) w = let m = none_more w.queued in (m.0, arrive-queued (get_elem? w.wire k) ms rs w ∙ m.1)
+step-more looks w = none_more w.queued
+step-more takes w = none_more w.queued
+step-more (hears k) w = none_more w.queued
 
--- the receiver refuses no piece
-hand-unrefused : (u : Setup) (o : Option Entry) (w : World) → Good w → SetUp u w → ((x : Entry) → o ≡ some x → Sound w.queued x) → (more : List Bytes) → Fits u (w.queued ++ more)
-    → (hand_now ours o w).refused ≡ w.refused
-unfolding handing
-hand-unrefused u none w g t h more f = refl
-hand-unrefused u (some x) w g t h more f =
-    receives-unrefused w.queued w.receiver g.received (rooms u w g t more f) x (h x refl) (piece_told x) w.refused
+pub run_more : (evs : List Event) (w : World) → More w (run evs w)
+unfolding run
+run_more [] w = none_more w.queued
+run_more (ev ∷ evs) w =
+    let a = step-more ev w in
+    let b = run_more evs (step ev w) in
+    (a.0 ++ b.0, b.1 ∙ ap (λ (l : List Bytes). l ++ b.0) a.1 ∙ append_assoc w.queued a.0 b.0)
 
--- only handing over may be refused
-abbrev pub HandsWell : Event → World → Type 0
-HandsWell (queues msg) w = Unit
-HandsWell (rounds seq now allowance out table) w = Unit
-HandsWell (reads k behind ms rs) w = Unit
-HandsWell (hands j i) w = (hand_now ours (entry_at w.read j i) w).refused ≡ w.refused
-HandsWell looks w = Unit
-HandsWell takes w = Unit
-HandsWell (hears k) w = Unit
+-- ---- an arrival where there is room for all that is ever queued
 
-pub step-unrefused : (ev : Event) (w : World) → HandsWell ev w → (step ev w).refused ≡ w.refused
-unfolding step_with queueing rounding reading taking hearing
-step-unrefused (queues msg) w h = refl
-step-unrefused (rounds seq now allowance out table) w h =
-    pick-cases (λ (x : World). x.refused ≡ w.refused) (ours.round seq now allowance out table w.sender).accepted (λ _. refl) (λ _. refl)
-step-unrefused (reads k behind ms rs) w h = at (get_elem? w.wire k)
-  where
-    at : (o : Option Bytes) → (reading o behind ms rs w).refused ≡ w.refused
-    at none = refl
-    at (some bs) = refl
-step-unrefused (hands j i) w h = h
-step-unrefused looks w h = refl
-step-unrefused takes w h = refl
-step-unrefused (hears k) w h = at (get_elem? w.took k)
-  where
-    at : (o : Option Piece) → (hear_now ours o w).refused ≡ w.refused
-    at none = refl
-    at (some p) = refl
+roomy : (u : Setup) (w : World) → Good w → SetUp u w → (more : List Bytes) → Fits u (w.queued ++ more)
+    → Roomy w.queued w.receiver.state.settings (length w.receiver.small) (length w.receiver.lanes)
+roomy u w g t more f =
+    rw (t.receiving, t.small, t.lanes) (record {
+      memory = let z = total-append charge_of w.queued more in omega (arith, f.memory);
+      few-small = let z = total-append small_of w.queued more in omega (arith, f.small);
+      few-sliced = let z = total-append sliced_of w.queued more in omega (arith, f.sliced);
+      stores = f.stores;
+      numbers = omega (arith, g.stored.next, g.sender.valid.next-most);
+      short = λ id msg queued.
+          let l = at_low w.queued id queued in
+          let x = subst (Short u.sending) (at-get_or w.queued id [] queued) (all-at (Short u.sending) w.queued id [] l t.short) in
+          omega (arith, f.pieces);
+    })
 
-hands-well : (u : Setup) (ev : Event) (w : World) → Good w → SetUp u w → (more : List Bytes) → Fits u (w.queued ++ more) → HandsWell ev w
-hands-well u (queues msg) w g t more f = tt
-hands-well u (rounds seq now allowance out table) w g t more f = tt
-hands-well u (reads k behind ms rs) w g t more f = tt
-hands-well u (hands j i) w g t more f = hand-unrefused u (entry_at w.read j i) w g t (λ x e. entry-sound w.queued w.read j i g.read e) more f
-hands-well u looks w g t more f = tt
-hands-well u takes w g t more f = tt
-hands-well u (hears k) w g t more f = tt
+no-fault : (bs : Bytes) (ms rs : List ℕ) (p : reader.Packet) (used : ℕ) → reader.packet bs 0 ≡ ok p used → reader.holds p (length ms) (length rs) ≡ true → fault_of (read_with bs ms rs) ≡ []
+unfolding reader.judged
+no-fault bs ms rs p used e t =
+    ap (λ (x : Res reader.Packet). fault_of (reader.judged x (length ms) (length rs))) e ∙ ap (λ (b : Bool). fault_of (pick b (ok p used) (fault 11))) t
 
-pub run-unrefused : (u : Setup) (evs : List Event) (w : World) → Good w → SetUp u w → Fits u (run evs w).queued → (run evs w).refused ≡ w.refused
-unfolding run_with
-run-unrefused u [] w g t f = refl
-run-unrefused u (ev ∷ evs) w g t f =
-    let m = (run-grows (ev ∷ evs) w).queued in
-    run-unrefused u evs (step ev w) (step-good ev w g) (step_set u ev w g t) f ∙ step-unrefused ev w (hands-well u ev w g t m.0 (subst (Fits u) m.1 f))
+arrive-unrefused : (o : Option Bytes) (ms rs : List ℕ) (w : World) → Good w → Counts w.queued w.receiver.state
+    → Roomy w.queued w.receiver.state.settings (length w.receiver.small) (length w.receiver.lanes)
+    → ((bs : Bytes) → o ≡ some bs → WireHas w.queued bs)
+    → ((bs : Bytes) (p : reader.Packet) (used : ℕ) → o ≡ some bs → reader.packet bs 0 ≡ ok p used → reader.holds p (length ms) (length rs) ≡ true)
+    → (arriving o ms rs w).receiver.refused ≡ w.receiver.refused
+unfolding arriving
+arrive-unrefused none ms rs w g c room h tabled = refl
+arrive-unrefused (some bs) ms rs w g c room h tabled =
+    let b = (h bs refl).back in
+    let n = no-fault bs ms rs b.packet-read b.used b.reads (tabled bs b.packet-read b.used refl b.reads) in
+    let e = noting (fault_of (read_with bs ms rs)) w.receiver in
+    all-unrefused w.queued (handed bs ms rs) e (wire-sound w.queued bs (h bs refl) ms rs) g.received c room
+    ∙ ap (λ (l : List ℕ). w.receiver.refused ++ l) n ∙ append-nil w.receiver.refused
 
--- ---- the reader refuses no packet whose messages its table holds
+pub step-unrefused : (u : Setup) (ev : Event) (w : World) → Good w → SetUp u w → TabledNow ev w → (more : List Bytes) → Fits u (w.queued ++ more)
+    → (step ev w).receiver.refused ≡ w.receiver.refused
+unfolding step queueing sending taking hearing
+step-unrefused u (queues msg) w g t tabled more f = refl
+step-unrefused u (rounds seq now allowance out table) w g t tabled more f =
+    pick-cases (λ (x : World). x.receiver.refused ≡ w.receiver.refused) (goes w.sender.state (given_now seq now allowance w.sender) out table) (λ _. refl) (λ _. refl)
+step-unrefused u (arrives k ms rs) w g t tabled more f =
+    arrive-unrefused (get_elem? w.wire k) ms rs w g t.counts (roomy u w g t more f) (λ bs e. wire-at w.queued w.wire k e g.wire) tabled
+step-unrefused u looks w g t tabled more f = refl
+step-unrefused u takes w g t tabled more f = refl
+step-unrefused u (hears k) w g t tabled more f = refl
 
--- with anything behind it the same table does
-pub held-behind : (q : List Bytes) (bs : Bytes) (h : WireHas q bs) (behind : Bytes) (m n : ℕ)
-    → ((p : reader.Packet) (used : ℕ) → reader.packet bs 0 ≡ ok p used → reader.holds p m n ≡ true)
-    → reader.holds (h.back.with behind).packet-read m n ≡ true
-held-behind q bs h behind m n tabled =
-    let x = back_alone bs h.back in
-    (h.back.with behind).holding m n ∙ sym (x.holding m n) ∙ tabled x.packet-read x.used x.reads
+run-unrefused : (u : Setup) (evs : List Event) (w : World) → Good w → SetUp u w → Tabled evs w → Fits u (run evs w).queued → (run evs w).receiver.refused ≡ w.receiver.refused
+unfolding run Tabled
+run-unrefused u [] w g t tabled f = refl
+run-unrefused u (ev ∷ evs) w g t tabled f =
+    let m = run_more (ev ∷ evs) w in
+    run-unrefused u evs (step ev w) (step-good ev w g) (step_set u ev w g t) tabled.1 f
+    ∙ step-unrefused u ev w g t tabled.0 m.0 (subst (Fits u) m.1 f)
 
-step-read : (ev : Event) (w : World) → Good w → TabledNow ev w → (step ev w).unread ≡ w.unread
-unfolding step_with queueing rounding reading handing taking hearing
-step-read (queues msg) w g tabled = refl
-step-read (rounds seq now allowance out table) w g tabled =
-    pick-cases (λ (x : World). x.unread ≡ w.unread) (ours.round seq now allowance out table w.sender).accepted (λ _. refl) (λ _. refl)
-step-read (reads k behind ms rs) w g tabled = at (get_elem? w.wire k) refl
-  where
-    at : (o : Option Bytes) → get_elem? w.wire k ≡ o → (reading o behind ms rs w).unread ≡ w.unread
-    at none e = refl
-    at (some bs) e =
-        let h = wire-at w.queued w.wire k e g.wire in
-        let x = h.back.with behind in
-        let j = read-judged (bs ++ behind) ms rs x.packet-read x.used x.reads in
-        rw (j, held-behind w.queued bs h behind (length ms) (length rs) (λ p used z. tabled bs p used e z)) (append-nil w.unread)
-step-read (hands j i) w g tabled = at (entry_at w.read j i)
-  where
-    at : (o : Option Entry) → (hand_now ours o w).unread ≡ w.unread
-    at none = refl
-    at (some x) = refl
-step-read looks w g tabled = refl
-step-read takes w g tabled = refl
-step-read (hears k) w g tabled = at (get_elem? w.took k)
-  where
-    at : (o : Option Piece) → (hear_now ours o w).unread ≡ w.unread
-    at none = refl
-    at (some p) = refl
-
-pub run-read : (evs : List Event) (w : World) → Good w → Tabled ours evs w → (run evs w).unread ≡ w.unread
-unfolding run_with Tabled
-run-read [] w g tabled = refl
-run-read (ev ∷ evs) w g tabled = run-read evs (step ev w) (step-good ev w g) tabled.1 ∙ step-read ev w g tabled.0
-
-pub premise_holds : PremiseHolds ours
+pub premise_holds : PremiseHolds
 unfolding new
-premise_holds u a evs f =
-    (run-unrefused u evs (new u) (new-good u a) (new-set u) f, λ tabled. run-read evs (new u) (new-good u a) tabled)
+premise_holds u a evs f tabled = run-unrefused u evs (new u) (new-good u a) (new-set u) tabled f

@@ -2,12 +2,12 @@
 -- or the piece that were packed in it. Assumes nothing.
 use Prim.Native.Nat.{ℕ, suc, ◌+◌, ◌*◌, ◌≤◌, ◌<◌}
 use mathlib.Core.Path.{◌≡◌, refl, sym, ap, ◌∙◌, subst}
-use mathlib.Core.Bool.{Bool, true}
+use mathlib.Core.Bool.{Bool, true, false}
 use mathlib.Core.List.{List, [], ◌∷◌, ◌++◌, map}
 use native.Mathlib.Omega.{arith}
-use lib.Dec.{ltb, leb}
+use lib.Dec.{ltb}
 use lib.ListN.{length, get_or, take, drop, length-take, length-drop, length-map}
-use borrow.Author.Tests.{leb-true, ltb-false, le-leb}
+use borrow.Author.Tests.{leb-true, ltb-false}
 use Rattle.words.specs.Sizes.{LIMIT}
 use Rattle.words.specs.Choice.{pick}
 use Rattle.words.specs.Lists.{splice, All}
@@ -22,11 +22,8 @@ use Rattle.packet_small.specs.Write.{Said, id_said, listed, record_at, small_byt
 use Rattle.packet_small.specs.Layout.{SmallSaid, content_of, small_said}
 use Rattle.packet_small.specs.Laws.{Sayable}
 use Rattle.packet_small.proofs.Theorems.{written-spelt}
-use Rattle.packet_slice.specs.Slice.{Allowed}
 use Rattle.packet_slice.specs.Write.{SliceSaid, slice_bytes, slice_said}
-use Rattle.packet_slice.proofs.Allowed.{within-allowed}
 use Rattle.packet_slice.proofs.Theorems as slice-theorems
-use Rattle.packet_ack.specs.declared.Range.{Range}
 use Rattle.packet.specs.Packet as reader
 use Rattle.packet.specs.Packet.{small_reliable, small_unreliable, reliable_slice, unreliable_slice, ack}
 use Rattle.packet.specs.Layout.{said_in}
@@ -35,36 +32,35 @@ use Rattle.pack.specs.Pack.{Item, Pack, group, single}
 use Rattle.pack.specs.Encode.{Lent, said_item, said_piece, pack_bytes, packets_bytes, end_to_end, ENTRY, entries, round_refusal, out_after, table_after}
 use Rattle.pack.specs.Laws.{Lie, one_lies}
 use Rattle.pack.proofs.Theorems.{packets-lie}
-use Rattle.delivery.specs.Pair.{Bytes}
-use Rattle.delivery.specs.Calls.{Piece, piece, Entry, message, slice, piece_told, cut, message_in, told_by, read_with, told}
-use Rattle.delivery.specs.Rounds.{pieces_said}
-use Rattle.delivery.proofs.Items.{SmallHas, PieceHas, PackHas, FewIn}
+use Rattle.delivery.specs.World.{Bytes, Part, whole, piece, Handed, message, slice, message_in, handed_by, handed, cut}
+use Rattle.delivery.specs.Window.{parts_said}
+use Rattle.delivery.proofs.Lists.{append-nil}
+use Rattle.delivery.proofs.Items.{SmallHas, PackHas, FewIn}
 
 -- ---- what a packet hands over
 
-abbrev pub small_handed : Bytes → Item → Entry
+abbrev pub small_handed : Bytes → Item → Handed
 small_handed small x = message x.id (take x.len (drop x.place small))
 
-abbrev pub piece_handed : Bytes → Item → Entry
+abbrev pub piece_handed : Bytes → Item → Handed
 piece_handed lanes x = slice x.id x.num x.index (take x.len (drop x.place lanes))
 
-abbrev pub handed_pack : Bytes → Bytes → Pack → List Entry
+abbrev pub handed_pack : Bytes → Bytes → Pack → List Handed
 handed_pack small lanes (group is) = map (small_handed small) is
 handed_pack small lanes (single x) = piece_handed lanes x ∷ []
 
--- a buffer is read, with a table of so many words or more for its messages, and tells these
-pub record ReadsAs (need : ℕ) (buf : Bytes) (xs : List Entry) : Type 0 where
+-- the piece that is handed over
+abbrev pub part_handed : Handed → Part
+part_handed (message id bs) = whole id
+part_handed (slice id num i bs) = piece id i
+
+pub record ReadsBack (bs : Bytes) (xs : List Handed) : Type 0 where
   pub packet-read : reader.Packet
   pub used : ℕ
-  pub reads : reader.packet buf 0 ≡ ok packet-read used
-  pub holding : (m n : ℕ) → reader.holds packet-read m n ≡ leb need m
-  pub tells : (ms : List ℕ) (rs : List Range) → reader.holds packet-read (length ms) (length rs) ≡ true → told buf ms rs ≡ xs
-  pub parts : pieces_said (reader.packet buf 0) ≡ map piece_told xs
-
--- a packet is so with anything behind it
-pub record ReadsBack (bs : Bytes) (xs : List Entry) : Type 0 where
-  pub need : ℕ
-  pub with : (behind : Bytes) → ReadsAs need (bs ++ behind) xs
+  pub reads : reader.packet bs 0 ≡ ok packet-read used
+  pub hands : (ms rs : List ℕ) → reader.holds packet-read (length ms) (length rs) ≡ true → handed bs ms rs ≡ xs
+  pub stops : (ms rs : List ℕ) → reader.holds packet-read (length ms) (length rs) ≡ false → handed bs ms rs ≡ []
+  pub parts : parts_said (reader.packet bs 0) ≡ map part_handed xs
 
 -- ---- the reader's table names its messages
 
@@ -98,52 +94,53 @@ listed_back t xs h =
 
 -- ---- reading
 
-module _ (bs : Bytes) (ms : List ℕ) (rs : List Range) (p : reader.Packet) (n : ℕ) (e : reader.packet bs 0 ≡ ok p n) where
-  -- it is accepted where the tables hold its entries, and refused otherwise
-  pub read-judged : read_with bs ms rs ≡ pick (reader.holds p (length ms) (length rs)) (ok p n) (fault 11)
-  unfolding reader.judged
-  read-judged = ap (λ (r : Res reader.Packet). reader.judged r (length ms) (length rs)) e
+module _ (bs : Bytes) (ms rs : List ℕ) (p : reader.Packet) (n : ℕ) (e : reader.packet bs 0 ≡ ok p n) where
+  handed-is : reader.holds p (length ms) (length rs) ≡ true → handed bs ms rs ≡ handed_by bs (ok (reader.told_of p) n) (reader.messages_of p ms)
+  unfolding handed reader.judged
+  handed-is t =
+      ap (λ (r : Res reader.Packet). handed_by bs (reader.told (reader.judged r (length ms) (length rs))) (reader.leaves reader.messages_of (reader.judged r (length ms) (length rs)) ms)) e
+      ∙ ap (λ (b : Bool). handed_by bs (reader.told (pick b (ok p n) (fault 11))) (reader.leaves reader.messages_of (pick b (ok p n) (fault 11)) ms)) t
 
-  told_is : reader.holds p (length ms) (length rs) ≡ true → told bs ms rs ≡ told_by bs (ok (reader.told_of p) n) (reader.messages_of p ms)
-  unfolding told
-  told_is t =
-      ap (λ (r : Res reader.Packet). told_by bs (reader.told r) (reader.leaves reader.messages_of r ms)) read-judged
-      ∙ ap (λ (b : Bool). told_by bs (reader.told (pick b (ok p n) (fault 11))) (reader.leaves reader.messages_of (pick b (ok p n) (fault 11)) ms)) t
+  handed-none : reader.holds p (length ms) (length rs) ≡ false → handed bs ms rs ≡ []
+  unfolding handed reader.judged
+  handed-none t =
+      ap (λ (r : Res reader.Packet). handed_by bs (reader.told (reader.judged r (length ms) (length rs))) (reader.leaves reader.messages_of (reader.judged r (length ms) (length rs)) ms)) e
+      ∙ ap (λ (b : Bool). handed_by bs (reader.told (pick b (ok p n) (fault 11))) (reader.leaves reader.messages_of (pick b (ok p n) (fault 11)) ms)) t
 
-abbrev hand_over_of : Said → Entry
+abbrev hand_over_of : Said → Handed
 hand_over_of w = message w.id w.bytes
 
 hand-contents : (bs : Bytes) (ms : List small.Message) → map (message_in bs) ms ≡ map hand_over_of (map (content_of bs) ms)
 hand-contents bs [] = refl
-hand-contents bs (m ∷ ms) = ap (λ (l : List Entry). message_in bs m ∷ l) (hand-contents bs ms)
+hand-contents bs (m ∷ ms) = ap (λ (l : List Handed). message_in bs m ∷ l) (hand-contents bs ms)
 
 hand-items : (lent : Lent) → lent.ids ≡ true → (is : List Item) → map hand_over_of (map (said_item lent) is) ≡ map (small_handed lent.small) is
 hand-items lent e [] = refl
 hand-items lent e (x ∷ is) =
-    ap (λ (l : List Entry). hand_over_of (said_item lent x) ∷ l) (hand-items lent e is)
+    ap (λ (l : List Handed). hand_over_of (said_item lent x) ∷ l) (hand-items lent e is)
     ∙ ap (λ (b : Bool). message (id_said b x.id) (take x.len (drop x.place lent.small)) ∷ map (small_handed lent.small) is) e
 
-said-parts : (bs : Bytes) (ms : List small.Message) → map (λ (m : small.Message). piece m.id 0) ms ≡ map piece_told (map (message_in bs) ms)
+said-parts : (bs : Bytes) (ms : List small.Message) → map (λ (m : small.Message). whole m.id) ms ≡ map part_handed (map (message_in bs) ms)
 said-parts bs [] = refl
-said-parts bs (m ∷ ms) = ap (λ (l : List Piece). piece m.id 0 ∷ l) (said-parts bs ms)
+said-parts bs (m ∷ ms) = ap (λ (l : List Part). whole m.id ∷ l) (said-parts bs ms)
 
 -- a packet of small messages
-module _ (bs : Bytes) (w : SmallSaid) (xs : List Entry) (x : map hand_over_of w.messages ≡ xs) where
-  small_by : (p : reader.Packet) (n : ℕ) → reader.packet bs 0 ≡ ok p n → said_in bs p ≡ small_reliable w → ReadsAs (RECORD * length w.messages) bs xs
+module _ (bs : Bytes) (w : SmallSaid) (xs : List Handed) (x : map hand_over_of w.messages ≡ xs) where
+  small_by : (p : reader.Packet) (n : ℕ) → reader.packet bs 0 ≡ ok p n → said_in bs p ≡ small_reliable w → ReadsBack bs xs
   small_by (small_reliable p) n e s =
       let q : small_said bs p ≡ w = cc in
       record {
         packet-read = small_reliable p;
         used = n;
         reads = e;
-        holding = λ m _. ap (λ (k : ℕ). leb (RECORD * k) m) (sym (length-map p.messages (content_of bs)) ∙ ap (λ (y : SmallSaid). length y.messages) q);
-        tells = λ ms rs t.
-            told_is bs ms rs (small_reliable p) n e t
+        hands = λ ms rs t.
+            handed-is bs ms rs (small_reliable p) n e t
             ∙ ap (map (message_in bs)) (listed_back ms p.messages (leb-true _ _ t))
             ∙ hand-contents bs p.messages
             ∙ ap (λ (y : SmallSaid). map hand_over_of y.messages) q
             ∙ x;
-        parts = ap pieces_said e ∙ said-parts bs p.messages ∙ ap (map piece_told) (hand-contents bs p.messages ∙ ap (λ (y : SmallSaid). map hand_over_of y.messages) q ∙ x);
+        stops = λ ms rs t. handed-none bs ms rs (small_reliable p) n e t;
+        parts = ap parts_said e ∙ said-parts bs p.messages ∙ ap (map part_handed) (hand-contents bs p.messages ∙ ap (λ (y : SmallSaid). map hand_over_of y.messages) q ∙ x);
       }
   small_by (small_unreliable p) n e s = clash (cc)
   small_by (reliable_slice p) n e s = clash (cc)
@@ -152,16 +149,16 @@ module _ (bs : Bytes) (w : SmallSaid) (xs : List Entry) (x : map hand_over_of w.
 
 -- a piece
 module _ (bs : Bytes) (w : SliceSaid) where
-  slice-by : (p : reader.Packet) (n : ℕ) → reader.packet bs 0 ≡ ok p n → said_in bs p ≡ reliable_slice w → ReadsAs 0 bs (slice w.id w.num-slices w.index w.bytes ∷ [])
+  slice-by : (p : reader.Packet) (n : ℕ) → reader.packet bs 0 ≡ ok p n → said_in bs p ≡ reliable_slice w → ReadsBack bs (slice w.id w.num-slices w.index w.bytes ∷ [])
   slice-by (reliable_slice p) n e s =
       let q : slice_said bs p ≡ w = cc in
       record {
         packet-read = reliable_slice p;
         used = n;
         reads = e;
-        holding = λ m _. sym (le-leb 0 m (omega arith));
-        tells = λ ms rs t. told_is bs ms rs (reliable_slice p) n e t ∙ ap (λ (y : SliceSaid). slice y.id y.num-slices y.index y.bytes ∷ []) q;
-        parts = ap pieces_said e ∙ ap (λ (y : SliceSaid). piece y.id y.index ∷ []) q;
+        hands = λ ms rs t. handed-is bs ms rs (reliable_slice p) n e t ∙ ap (λ (y : SliceSaid). slice y.id y.num-slices y.index y.bytes ∷ []) q;
+        stops = λ ms rs t. handed-none bs ms rs (reliable_slice p) n e t;
+        parts = ap parts_said e ∙ ap (λ (y : SliceSaid). piece y.id y.index ∷ []) q;
       }
   slice-by (small_reliable p) n e s = clash (cc)
   slice-by (small_unreliable p) n e s = clash (cc)
@@ -169,17 +166,6 @@ module _ (bs : Bytes) (w : SliceSaid) where
   slice-by (ack p) n e s = clash (cc)
 
 -- ---- the packets of a round
-
--- the reader refuses no piece of a round
-module _ {q : List Bytes} (lanes : Bytes) (x : Item) (h : PieceHas q lanes x) where
-  piece-long : length (take x.len (drop x.place lanes)) ≡ x.len
-  piece-long = let a = length-take x.len (drop x.place lanes) in let b = length-drop x.place lanes in omega (arith, h.within)
-
-  pub piece-allowed : Allowed x.index x.num (length (take x.len (drop x.place lanes)))
-  piece-allowed =
-      let k = piece-long in
-      within-allowed x.index x.num (length (take x.len (drop x.place lanes)))
-      (record { some = omega (arith, h.low); few = omega (arith, h.few); below = h.low; filled = omega (arith, h.one); short = omega (arith, h.short) })
 
 module _ (q : List Bytes) (lent : Lent) (e : lent.ids ≡ true) (channel : lent.channel < 256) where
   said-ids : (x : Item) → (said_item lent x).id ≡ x.id
@@ -191,32 +177,29 @@ module _ (q : List Bytes) (lent : Lent) (e : lent.ids ≡ true) (channel : lent.
   all-sayable (x ∷ is) a =
       ((rw (said-ids x) a.0.below, let n = length-take x.len (drop x.place lent.small) in omega (arith, a.0.short)), all-sayable is a.1)
 
-  pub packet-back : (seq : ℕ) (p : Pack) → seq < LIMIT → PackHas q lent.small lent.lanes p → FewIn p → ReadsBack (pack_bytes lent seq p) (handed_pack lent.small lent.lanes p)
+  pub arrives : (seq : ℕ) (p : Pack) → seq < LIMIT → PackHas q lent.small lent.lanes p → FewIn p → ReadsBack (pack_bytes lent seq p) (handed_pack lent.small lent.lanes p)
   unfolding pack_bytes
-  packet-back seq (group is) low h few =
+  arrives seq (group is) low h few =
       let ms = map (said_item lent) is in
       let bs = small_bytes_of true seq lent.channel ms in
       let w : SmallSaid = record { sequence = seq; channel = lent.channel; messages = ms } in
       let s = written-spelt true seq lent.channel ms low channel (rw (length-map is (said_item lent)) few) (all-sayable is h) in
+      let c = complete (small_reliable w) bs [] s in
+      let n = append-nil bs in
       subst (λ (b : Bool). ReadsBack (small_bytes_of b seq lent.channel ms) (map (small_handed lent.small) is)) (sym e)
-      (record {
-        need = RECORD * length ms;
-        with = λ behind.
-            let c = complete (small_reliable w) bs behind s in
-            small_by (bs ++ behind) w (map (small_handed lent.small) is) (hand-items lent e is) c.packet-read (length bs) c.reads c.says;
-      })
-  packet-back seq (single x) low h few =
+      (small_by bs w (map (small_handed lent.small) is) (hand-items lent e is) c.packet-read (length bs) (rw n at c.reads) (rw n at c.says))
+  arrives seq (single x) low h few =
       let w = said_piece lent seq x in
       let bs = slice_bytes true w in
-      let k = piece-long lent.lanes x h in
+      let k : length (take x.len (drop x.place lent.lanes)) ≡ x.len
+      = let a = length-take x.len (drop x.place lent.lanes) in let b = length-drop x.place lent.lanes in omega (arith, h.within) in
       let s = slice-theorems.written true w
       (record { sequence = low; channel = channel; id = h.below; index = omega (arith, h.low, h.few); num-slices = omega (arith, h.few); bytes = omega (arith, h.short) })
-      (piece-allowed lent.lanes x h) in
+      (record { some = omega (arith, h.low); few = omega (arith, h.few); payload = (omega (arith, h.one), omega (arith, h.short)) }) in
+      let c = complete (reliable_slice w) bs [] s in
+      let n = append-nil bs in
       subst (λ (b : Bool). ReadsBack (slice_bytes b w) (piece_handed lent.lanes x ∷ [])) (sym e)
-      (record {
-        need = 0;
-        with = λ behind. let c = complete (reliable_slice w) bs behind s in slice-by (bs ++ behind) w c.packet-read (length bs) c.reads c.says;
-      })
+      (slice-by bs w c.packet-read (length bs) (rw n at c.reads) (rw n at c.says))
 
 -- ---- where the packets lie
 

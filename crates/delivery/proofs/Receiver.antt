@@ -3,7 +3,7 @@
 use Prim.Native.Nat.{ℕ, ◌+◌, ◌*◌, ◌≤◌, ◌<◌}
 use mathlib.Core.Path.{◌≡◌, refl, sym, ap, ◌∙◌, subst}
 use mathlib.Core.Bool.{Bool, true, false}
-use mathlib.Core.List.{List, [], ◌++◌}
+use mathlib.Core.List.{List, [], ◌∷◌, ◌++◌}
 use mathlib.Core.Option.{some}
 use native.Mathlib.Omega.{arith}
 use lib.Dec.{ltb}
@@ -13,7 +13,7 @@ use borrow.Author.Tests.{ltb-true, ltb-false}
 use Rattle.words.specs.Sizes.{SLICE_SIZE, SLOTS, LANES, PIECES, LIMIT}
 use Rattle.words.specs.Choice.{pick}
 use Rattle.words.specs.Pieces.{pieces_of, piece_of}
-use Rattle.words.specs.Lists.{splice}
+use Rattle.words.specs.Lists.{splice, reached, All}
 use Rattle.words.proofs.Splice.{length-splice}
 use Rattle.words.proofs.Tables.{by-test, by_place, pick-cases, none-held, part-before, part-after, part-here}
 use Rattle.channel.specs.Settings.{Good, lane_len_of, stores_hold_of}
@@ -34,8 +34,7 @@ use Rattle.receive_reliable.specs.declared.Store.TheVariants.{Small, Lanes}
 use Rattle.receive_reliable.proofs.Valid.{new-valid, message-valid, lane-valid, without-cell-valid, without-lane-valid}
 use Rattle.receive_reliable.proofs.Spots.{cell-here, lane_here, Entered, spot-cell, open-fits, fresh-fits}
 use Rattle.receive_reliable.proofs.Gives.{fits-taken}
-use Rattle.delivery.specs.Pair.{Bytes, Receiving}
-use Rattle.delivery.specs.Calls.{Entry, message, slice, receives}
+use Rattle.delivery.specs.World.{Bytes, Handed, message, slice, Receiving, receives}
 use Rattle.delivery.proofs.Lists.{same_some, at_more, drop-splice-add, never, places-apart}
 use Rattle.delivery.proofs.Spots as spots
 use Rattle.delivery.proofs.Spots.{stores-hold, slice-placed}
@@ -54,7 +53,7 @@ pub record PieceOf (q : List Bytes) (id num i : ℕ) (bs : Bytes) : Type 0 where
   pub bytes : bs ≡ piece_of msg i
 
 -- what a packet may hand to the receiver
-abbrev pub Sound : List Bytes → Entry → Type 0
+abbrev pub Sound : List Bytes → Handed → Type 0
 Sound q (message id bs) = Queued q id bs × (length bs ≤ SLICE_SIZE)
 Sound q (slice id num i bs) = PieceOf q id num i bs
 
@@ -384,7 +383,7 @@ module _ (q : List Bytes) (s : ReceiveChannelReliable) (small lanes : Bytes) (h 
   -- what a take does: nothing, or it hands out the message with the oldest pending id
   pub data Takes : ReceiveChannelReliable → r.Waiting → Type 0 where
     nothing-waits : Takes s r.none-waiting
-    gives : {s' : ReceiveChannelReliable} {w : r.Waiting} (store : Store) (place len : ℕ) → w ≡ r.message oldest store place len → stores_hold_of s.settings (length small) (length lanes) ≡ true
+    hands : {s' : ReceiveChannelReliable} {w : r.Waiting} (store : Store) (place len : ℕ) → w ≡ r.message oldest store place len → stores_hold_of s.settings (length small) (length lanes) ≡ true
         → Queued q oldest (r.part_at w small lanes) → s'.oldest_pending_message_id ≡ oldest + 1 → Has q s' small lanes → Takes s' w
 
   from_cell : in_cell_of s oldest ≡ true → Takes (without_cell s (cell_of s oldest)) (r.message oldest Small (cell_of s oldest * SLICE_SIZE) (get_or s.cell_lens (cell_of s oldest) 0))
@@ -394,7 +393,7 @@ module _ (q : List Bytes) (s : ReceiveChannelReliable) (small lanes : Bytes) (h 
       let found = cell-here s oldest h.valid e in
       let x = h.cells (cell_of s oldest) low found.held in
       let below : oldest < LIMIT = rw found.named at (h.valid.cell (cell_of s oldest) low).id_below in
-      gives Small (cell_of s oldest * SLICE_SIZE) (get_or s.cell_lens (cell_of s oldest) 0) refl x.room
+      hands Small (cell_of s oldest * SLICE_SIZE) (get_or s.cell_lens (cell_of s oldest) 0) refl x.room
       (ap (get_elem? q) (sym found.named) ∙ x.bytes) refl (without-cell-has (cell_of s oldest) low below)
 
   from-lane : in_lane_of s oldest ≡ true → get_or s.whole (lane_of s oldest) false ≡ true
@@ -406,7 +405,7 @@ module _ (q : List Bytes) (s : ReceiveChannelReliable) (small lanes : Bytes) (h 
       let x = h.lane (lane_of s oldest) low found.held in
       let w = x.whole f in
       let below : oldest < LIMIT = rw found.named at (h.valid.lane (lane_of s oldest) low).id_below in
-      gives Lanes (lane_of s oldest * lane_len_of s.settings) (get_or s.lane_lens (lane_of s oldest) 0) refl x.room
+      hands Lanes (lane_of s oldest * lane_len_of s.settings) (get_or s.lane_lens (lane_of s oldest) 0) refl x.room
       (ap (get_elem? q) (sym found.named) ∙ x.queued
       ∙ ap some (sym (ap (λ (n : ℕ). take n (drop (lane_of s oldest * lane_len_of s.settings) lanes)) w.0 ∙ w.1))) refl (without-lane-has (lane_of s oldest) low f below)
 
@@ -423,13 +422,19 @@ module _ (q : List Bytes) (s : ReceiveChannelReliable) (small lanes : Bytes) (h 
   unfolding after_take r.waiting
   takes-so = take-tests (in_cell_of s oldest) (in_lane_of s oldest) (get_or s.whole (lane_of s oldest) false) refl refl refl
 
--- ---- what is handed over, a small message or a piece
+-- ---- all that a packet hands over
 
-pub receives-has : (q : List Bytes) (e : Receiving) (x : Entry) → Sound q x → Has q e.state e.small e.lanes
+pub receives-has : (q : List Bytes) (e : Receiving) (x : Handed) → Sound q x → Has q e.state e.small e.lanes
     → Has q (receives e x).state (receives e x).small (receives e x).lanes
 unfolding receives
 receives-has q e (message id bs) sound h = message-has q e.state e.small e.lanes h id bs sound.0
 receives-has q e (slice id num i bs) sound h = slice-has q e.state e.small e.lanes h id num i bs sound
+
+pub all-has : (q : List Bytes) (xs : List Handed) (e : Receiving) → All (Sound q) xs → Has q e.state e.small e.lanes
+    → Has q (reached receives e xs).state (reached receives e xs).small (reached receives e xs).lanes
+unfolding reached All
+all-has q [] e a h = h
+all-has q (x ∷ xs) e a h = all-has q xs (receives e x) a.1 (receives-has q e x a.0 h)
 
 -- and it awaits the same id
 state-oldest : (s : ReceiveChannelReliable) (id n : ℕ) (x : MessageSpot) → (message_state s id n x).oldest_pending_message_id ≡ s.oldest_pending_message_id
@@ -443,7 +448,12 @@ slice-oldest s id num i n (opened l) = refl
 slice-oldest s id num i n (fresh l) = refl
 slice-oldest s id num i n (nothing o) = refl
 
-pub receives-oldest : (e : Receiving) (x : Entry) → (receives e x).state.oldest_pending_message_id ≡ e.state.oldest_pending_message_id
+receives-oldest : (e : Receiving) (x : Handed) → (receives e x).state.oldest_pending_message_id ≡ e.state.oldest_pending_message_id
 unfolding receives
 receives-oldest e (message id bs) = state-oldest e.state id (length bs) (message_spot e.state id (length bs) (length e.small) (length e.lanes))
 receives-oldest e (slice id num i bs) = slice-oldest e.state id num i (length bs) (slice_spot e.state id num i (length bs) (length e.small) (length e.lanes))
+
+pub all-oldest : (xs : List Handed) (e : Receiving) → (reached receives e xs).state.oldest_pending_message_id ≡ e.state.oldest_pending_message_id
+unfolding reached
+all-oldest [] e = refl
+all-oldest (x ∷ xs) e = all-oldest xs (receives e x) ∙ receives-oldest e x

@@ -9,13 +9,9 @@ use borrow.Author.Tests.{eqb-true, eqb-false}
 use Rattle.words.specs.Choice.{pick}
 use Rattle.words.proofs.Lists.{holds-le, holds-lt}
 use Rattle.send_reliable.specs.declared.SendChannelReliable.{SendChannelReliable}
-use Rattle.send_reliable.specs.Sender.{piece_at, Valid}
+use Rattle.send_reliable.specs.Sender.{Valid}
 use Rattle.pack.specs.Encode.{round_refusal}
 use Rattle.send_reliable.specs.Round.{Given, entry_refusal, packs, lent, refusal_of}
-
--- whether the table marks piece i of lane l as acknowledged
-abbrev pub acked_at : SendChannelReliable → ℕ → ℕ → Bool
-acked_at s l i = (piece_at s l i).acked
 
 module _ (s : SendChannelReliable) (v : Valid s) where
   -- where a cell or a lane is free, there is a row more

@@ -2,8 +2,9 @@
 -- was queued. Assumes nothing.
 use Prim.Native.Nat.{ℕ, ◌+◌, ◌*◌, ◌≤◌, ◌<◌}
 use mathlib.Core.Path.{◌≡◌, refl, sym, ap, ◌∙◌, subst}
-use mathlib.Core.Bool.{Bool, true, false}
+use mathlib.Core.Bool.{Bool, false}
 use mathlib.Core.List.{List, [], ◌∷◌, ◌++◌}
+use mathlib.Core.Option.{Option, none, some}
 use native.Mathlib.Omega.{arith}
 use lib.Dec.{ltb}
 use lib.ListN.{length, get_or, take, drop, length-append, length-take}
@@ -28,18 +29,12 @@ use Rattle.send_reliable.specs.Ack.{row_of, without, marked}
 use Rattle.send_reliable.specs.Select.{visits_from, Chosen, select}
 use Rattle.send_reliable.specs.Round.{Given, chosen, state_after}
 use Rattle.send_reliable.proofs.Valid.{rows-room, live-long, CellFree, LaneFree}
-use Rattle.delivery.specs.Pair.{Bytes}
-use Rattle.delivery.specs.Calls.{Piece, has_place, ack_now}
-use Rattle.delivery.specs.World.{noted}
+use Rattle.delivery.specs.World.{Bytes, Part, whole, piece, queued_at, ack_of}
 use Rattle.delivery.proofs.Lists.{at_more, at_last, all-index, never, places-apart, front-snoc}
 use Rattle.delivery.proofs.Walk.{Told, told, bare_kind, bare, Kept, kept-visits}
 use Rattle.delivery.proofs.Receiver.{Queued}
 use Rattle.delivery.proofs.Sender.{cell-more, lane-more}
 use Rattle.delivery.proofs.Cases.{spot-cases, found, small_cases, piece-cases}
-
--- all that was queued, when a message more finds a place or none
-abbrev pub queued_at : Spot → Bytes → List Bytes → List Bytes
-queued_at x msg ms = noted (has_place x) msg ms
 
 -- ---- where a waiting message lies
 
@@ -212,12 +207,11 @@ module _ (q : List Bytes) (s : SendChannelReliable) (small lanes : Bytes) (v : V
           let z = subst (λ (x : Kind). ToldHas q s.settings small lanes (record { id = id; len = n; kind = x })) e y in
           record { msg = z.msg; queued = z.queued; len_is = z.len_is; bytes = z.bytes; fits = z.fits; below = z.below }
 
-  pub ack-has : (b : Bool) (p : Piece) → After-ack (ack_now b p s).state
-  ack-has true p = small_cases s p.number After-ack h (λ i t low e. without-has (row_of s p.number) _ _ _ low)
-  ack-has false p =
-      piece-cases s p.number After-ack h p.index
-      (λ l a next c _. without-has (row_of s p.number) _ _ _ c.low)
-      (λ l a next c _. marked-has (row_of s p.number) l a next p.index (found s p.number) c.low refl c.kind)
+  pub ack-has : (p : Option Part) → After-ack (ack_of p s)
+  ack-has none = h
+  ack-has (some (whole x)) = small_cases s x After-ack h (λ i t low e. without-has (row_of s x) _ _ _ low)
+  ack-has (some (piece x i)) =
+      piece-cases s x After-ack h i (λ l a next c _. without-has (row_of s x) _ _ _ c.low) (λ l a next c _. marked-has (row_of s x) l a next i (found s x) c.low refl c.kind)
 
   -- ---- a round
 

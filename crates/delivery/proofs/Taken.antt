@@ -1,9 +1,8 @@
 -- What the receiver took stays with it until it is handed out: of each piece that it took or ignored, the message is old, or held whole, or open
 -- with that piece in it. Assumes nothing.
-use Prim.Native.Nat.{ℕ, ◌+◌, ◌<◌}
+use Prim.Native.Nat.{ℕ, ◌+◌, ◌≤◌, ◌<◌}
 use mathlib.Core.Path.{◌≡◌, refl, sym, ap, ◌∙◌, subst}
 use mathlib.Core.Bool.{Bool, true, false, not}
-use mathlib.Core.List.{List}
 use mathlib.Core.Logic.{◌⊎◌, inl, inr}
 use native.Mathlib.Omega.{arith}
 use lib.Dec.{ltb}
@@ -23,9 +22,7 @@ use Rattle.receive_reliable.specs.Receive.{cell_of, lane_of, in_cell_of, in_lane
 use Rattle.receive_reliable.specs.Steps.{lane_spot}
 use Rattle.receive_reliable.specs.declared.ReceiveChannelReliable.{ReceiveChannelReliable}
 use Rattle.receive_reliable.proofs.Spots.{cell-here, lane_here, spot-cell, open-fits, fresh-fits}
-use Rattle.delivery.specs.Pair.{Bytes, Receiving}
-use Rattle.delivery.specs.Calls.{Piece, piece, Entry, message, slice, piece_told, answers, receives}
-use Rattle.delivery.specs.World.{took_now, ignored_now}
+use Rattle.delivery.specs.World.{Bytes, Part, whole, piece, Handed, message, slice, Receiving, receives, took_now, ignored_now}
 use Rattle.delivery.proofs.Lookup.{find-other, find-new, find-same}
 use Rattle.delivery.proofs.Spots as spots
 use Rattle.delivery.proofs.Spots.{message-kept, slice-placed}
@@ -37,20 +34,25 @@ use Rattle.delivery.proofs.Lists.{never}
 abbrev pub HeldId : ReceiveChannelReliable → ℕ → Type 0
 HeldId s id = (id < s.oldest_pending_message_id) ⊎ (is_held s id ≡ true)
 
--- in an open lane
-abbrev pub OpenId : ReceiveChannelReliable → ℕ → ℕ → Type 0
-OpenId s id i = (in_lane_of s id ≡ true) × (get_or (constructor_at s (lane_of s id)).received i false ≡ true)
+abbrev pub ArrivedAt : ReceiveChannelReliable → Part → Type 0
+ArrivedAt s (whole id) = HeldId s id
+ArrivedAt s (piece id i) = HeldId s id ⊎ ((in_lane_of s id ≡ true) × (get_or (constructor_at s (lane_of s id)).received i false ≡ true))
 
-abbrev pub ArrivedAt : ReceiveChannelReliable → Piece → Type 0
-ArrivedAt s p = HeldId s p.number ⊎ OpenId s p.number p.index
+abbrev pub id_of : Part → ℕ
+id_of (whole id) = id
+id_of (piece id i) = id
+
+pub held-arrived : (s : ReceiveChannelReliable) (p : Part) → HeldId s (id_of p) → ArrivedAt s p
+held-arrived s (whole id) h = h
+held-arrived s (piece id i) h = inl h
 
 -- the search for an id finds the same in both
-pub record SameFor (s t : ReceiveChannelReliable) (id : ℕ) : Type 0 where
-  pub old : id < s.oldest_pending_message_id → id < t.oldest_pending_message_id
-  pub in_cells : cell_of t id ≡ cell_of s id
-  pub in-lanes : lane_of t id ≡ lane_of s id
-  pub all_here : in_lane_of s id ≡ true → get_or t.whole (lane_of s id) false ≡ get_or s.whole (lane_of s id) false
-  pub put-together : in_lane_of s id ≡ true → constructor_at t (lane_of s id) ≡ constructor_at s (lane_of s id)
+record SameFor (s t : ReceiveChannelReliable) (id : ℕ) : Type 0 where
+  old : s.oldest_pending_message_id ≤ t.oldest_pending_message_id
+  in_cells : cell_of t id ≡ cell_of s id
+  in-lanes : lane_of t id ≡ lane_of s id
+  all_here : in_lane_of s id ≡ true → get_or t.whole (lane_of s id) false ≡ get_or s.whole (lane_of s id) false
+  put-together : in_lane_of s id ≡ true → constructor_at t (lane_of s id) ≡ constructor_at s (lane_of s id)
 
 module _ (s t : ReceiveChannelReliable) (id : ℕ) (same : SameFor s t id) where
   lane-same : in_lane_of t id ≡ in_lane_of s id
@@ -67,29 +69,17 @@ module _ (s t : ReceiveChannelReliable) (id : ℕ) (same : SameFor s t id) where
       ∙ sym (ap (λ (b : Bool). pick (in_cell_of s id) true (pick b (get_or s.whole (lane_of s id) false) false)) e) in q ∙ h)
 
   held_on : HeldId s id → HeldId t id
-  held_on (inl h) = inl (same.old h)
+  held_on (inl h) = inl (omega (arith, same.old))
   held_on (inr h) = inr (held_same h)
 
-pub still-arrived : (s t : ReceiveChannelReliable) (p : Piece) → SameFor s t p.number → ArrivedAt s p → ArrivedAt t p
-still-arrived s t p same (inl h) = inl (held_on s t p.number same h)
-still-arrived s t p same (inr h) =
+still-arrived : (s t : ReceiveChannelReliable) (p : Part) → SameFor s t (id_of p) → ArrivedAt s p → ArrivedAt t p
+still-arrived s t (whole id) same h = held_on s t id same h
+still-arrived s t (piece id i) same (inl h) = inl (held_on s t id same h)
+still-arrived s t (piece id i) same (inr h) =
     inr (
-      lane-same s t p.number same ∙ h.0,
-      ap (λ (l : ℕ). get_or (constructor_at t l).received p.index false) same.in-lanes
-          ∙ ap (λ (k : SliceConstructor). get_or k.received p.index false) (same.put-together h.0) ∙ h.1,
+      lane-same s t id same ∙ h.0,
+      ap (λ (l : ℕ). get_or (constructor_at t l).received i false) same.in-lanes ∙ ap (λ (k : SliceConstructor). get_or k.received i false) (same.put-together h.0) ∙ h.1,
     )
-
--- and the other way
-pub same_back : (s t : ReceiveChannelReliable) (id : ℕ) → (id < t.oldest_pending_message_id → id < s.oldest_pending_message_id) → SameFor s t id → SameFor t s id
-same_back s t id old same =
-    let lane = lane-same s t id same in
-    record {
-      old = old;
-      in_cells = sym same.in_cells;
-      in-lanes = sym same.in-lanes;
-      all_here = λ e. rw same.in-lanes (sym (same.all_here (sym lane ∙ e)));
-      put-together = λ e. rw same.in-lanes (sym (same.put-together (sym lane ∙ e)));
-    }
 
 -- where an id is neither old nor held
 pub not-held : (s : ReceiveChannelReliable) (id : ℕ) → ignores s id ≡ false → HeldId s id → ⊥
@@ -101,7 +91,7 @@ not-held s id e (inr h) = at (ltb id s.oldest_pending_message_id) (rw h at e)
     at true z = never _ refl z
     at false z = never _ refl z
 
-pub is-held : (s : ReceiveChannelReliable) (id : ℕ) → ignores s id ≡ true → HeldId s id
+is-held : (s : ReceiveChannelReliable) (id : ℕ) → ignores s id ≡ true → HeldId s id
 unfolding ignores
 is-held s id e = by-test (ltb id s.oldest_pending_message_id) (λ t. inl (ltb-true _ _ t)) (λ t. inr (rw t at e))
 
@@ -137,11 +127,11 @@ module _ (s : ReceiveChannelReliable) (v : Valid s) where
   -- ---- a small message more
 
   module _ (i id n : ℕ) (low : i < SLOTS) (free : get_or s.cells i false ≡ false) where
-    pub message-other : (x : ℕ) → (id ≡ x → ⊥) → SameFor s (with_message_of s i id n) x
+    message-other : (x : ℕ) → (id ≡ x → ⊥) → SameFor s (with_message_of s i id n) x
     unfolding with_message_of
     message-other x ne =
         record {
-          old = λ l. omega arith;
+          old = omega arith;
           in_cells = find-other s.cells s.cell_ids x i true id (v.cells-long ∙ sym v.cell-ids-long) (λ h. never _ h free) (λ _. ne);
           in-lanes = refl;
           all_here = λ _. refl;
@@ -156,11 +146,11 @@ module _ (s : ReceiveChannelReliable) (v : Valid s) where
         rw (lt-ltb _ _ l)
 
     -- each that arrived before is here still
-    message-on : ignores s id ≡ false → (p : Piece) → ArrivedAt s p → ArrivedAt (with_message_of s i id n) p
+    message-on : ignores s id ≡ false → (p : Part) → ArrivedAt s p → ArrivedAt (with_message_of s i id n) p
     message-on ni p h =
-        by_place p.number id
-        (λ e. inl (subst (HeldId (with_message_of s i id n)) e (inr (message-now (no_cell s id ni)))))
-        (λ ne. still-arrived s (with_message_of s i id n) p (message-other p.number ne) h)
+        by_place (id_of p) id
+        (λ e. held-arrived (with_message_of s i id n) p (subst (HeldId (with_message_of s i id n)) e (inr (message-now (no_cell s id ni)))))
+        (λ ne. still-arrived s (with_message_of s i id n) p (message-other (id_of p) ne) h)
 
   -- ---- a piece more, in lane l, which was the id's already or free
 
@@ -168,11 +158,11 @@ module _ (s : ReceiveChannelReliable) (v : Valid s) where
     abbrev t : ReceiveChannelReliable
     t = with_lane_of s l id k
 
-    pub lane-other : (x : ℕ) → (id ≡ x → ⊥) → SameFor s t x
+    lane-other : (x : ℕ) → (id ≡ x → ⊥) → SameFor s t x
     unfolding with_lane_of
     lane-other x ne =
         record {
-          old = λ l. omega arith;
+          old = omega arith;
           in_cells = refl;
           in-lanes = find-other s.lanes s.lane_ids x l true id (v.lanes-long ∙ sym v.lane-ids-long) (λ h q. ne (sym (before h) ∙ q)) (λ _. ne);
           all_here = λ e. get_or-set_other s.whole l (lane_of s x) (is_whole k) false (apart e);
@@ -185,7 +175,7 @@ module _ (s : ReceiveChannelReliable) (v : Valid s) where
             ne (sym (before h.held) ∙ h.named)
 
     -- the lane of the id is l then
-    pub lane-now : (lane_of s id ≡ l) ⊎ (in_lane_of s id ≡ false) → lane_of t id ≡ l
+    lane-now : (lane_of s id ≡ l) ⊎ (in_lane_of s id ≡ false) → lane_of t id ≡ l
     unfolding with_lane_of
     lane-now (inl e) = at (in_lane_of s id) refl
       where
@@ -198,7 +188,7 @@ module _ (s : ReceiveChannelReliable) (v : Valid s) where
         find-new s.lanes s.lane_ids id l (v.lanes-long ∙ sym v.lane-ids-long) (omega (arith, v.lanes-long)) (omega (arith, ltb-false (lane_of s id) LANES e, v.lanes-long))
 
     module _ (mine : (lane_of s id ≡ l) ⊎ (in_lane_of s id ≡ false)) where
-      pub in-lane-now : in_lane_of t id ≡ true
+      in-lane-now : in_lane_of t id ≡ true
       in-lane-now = let z = lane-now mine in lt-ltb (lane_of t id) LANES (omega arith)
 
       -- whole, or with the pieces of k
@@ -226,52 +216,54 @@ module _ (s : ReceiveChannelReliable) (v : Valid s) where
 
       -- each that arrived before is here still
       lane-on : ignores s id ≡ false → (in_lane_of s id ≡ true → (j : ℕ) → get_or (constructor_at s (lane_of s id)).received j false ≡ true → get_or k.received j false ≡ true)
-          → (p : Piece) → ArrivedAt s p → ArrivedAt t p
+          → (p : Part) → ArrivedAt s p → ArrivedAt t p
       lane-on ni keeps p h =
-          by_place p.number id (λ e. own p e h) (λ ne. still-arrived s t p (lane-other p.number ne) h)
+          by_place (id_of p) id (λ e. own p e h) (λ ne. still-arrived s t p (lane-other (id_of p) ne) h)
         where
-          own : (p : Piece) → id ≡ p.number → ArrivedAt s p → ArrivedAt t p
-          own p e (inl h) = absurd (not-held s id ni (subst (HeldId s) (sym e) h))
-          own p e (inr h) =
-              let y : OpenId s id p.index = subst (λ (m : ℕ). OpenId s m p.index) (sym e) h in
-              subst (λ (m : ℕ). ArrivedAt t (piece m p.index)) e (piece-now p.index (keeps y.0 p.index y.1))
+          own : (p : Part) → id ≡ id_of p → ArrivedAt s p → ArrivedAt t p
+          own (whole x) e h = absurd (not-held s id ni (subst (HeldId s) (sym e) h))
+          own (piece x j) e (inl h) = absurd (not-held s id ni (subst (HeldId s) (sym e) h))
+          own (piece x j) e (inr h) =
+              let y : (in_lane_of s id ≡ true) × (get_or (constructor_at s (lane_of s id)).received j false ≡ true)
+              = subst (λ (m : ℕ). (in_lane_of s m ≡ true) × (get_or (constructor_at s (lane_of s m)).received j false ≡ true)) (sym e) h in
+              subst (λ (m : ℕ). ArrivedAt t (piece m j)) e (piece-now j (keeps y.0 j y.1))
 
   -- ---- a take
 
   abbrev oldest : ℕ
   oldest = s.oldest_pending_message_id
 
-  pub cell-gone : in_cell_of s oldest ≡ true → (x : ℕ) → (oldest ≡ x → ⊥) → SameFor s (without_cell s (cell_of s oldest)) x
+  cell-gone : in_cell_of s oldest ≡ true → (x : ℕ) → (oldest ≡ x → ⊥) → SameFor s (without_cell s (cell_of s oldest)) x
   unfolding without_cell
   cell-gone e x ne =
       let h = cell-here s oldest v e in
       record {
-        old = λ l. omega arith;
+        old = omega arith;
         in_cells = find-other s.cells s.cell_ids x (cell_of s oldest) false 0 (v.cells-long ∙ sym v.cell-ids-long) (λ _ q. ne (sym h.named ∙ q)) (λ b _. never _ b refl);
         in-lanes = refl;
         all_here = λ _. refl;
         put-together = λ _. refl;
       }
 
-  pub lane-gone : in_lane_of s oldest ≡ true → (x : ℕ) → (oldest ≡ x → ⊥) → SameFor s (without_lane s (lane_of s oldest)) x
+  lane-gone : in_lane_of s oldest ≡ true → (x : ℕ) → (oldest ≡ x → ⊥) → SameFor s (without_lane s (lane_of s oldest)) x
   unfolding without_lane
   lane-gone e x ne =
       let h = lane_here s oldest v e in
       record {
-        old = λ l. omega arith;
+        old = omega arith;
         in_cells = refl;
         in-lanes = find-other s.lanes s.lane_ids x (lane_of s oldest) false 0 (v.lanes-long ∙ sym v.lane-ids-long) (λ _ q. ne (sym h.named ∙ q)) (λ b _. never _ b refl);
         all_here = λ f. get_or-set_other s.whole (lane_of s oldest) (lane_of s x) false false (λ q. ne (sym h.named ∙ ap (λ (m : ℕ). get_or s.lane_ids m 0) (sym q) ∙ (lane_here s x v f).named));
         put-together = λ _. refl;
       }
 
-  gone-on : (t : ReceiveChannelReliable) → t.oldest_pending_message_id ≡ oldest + 1 → ((x : ℕ) → (oldest ≡ x → ⊥) → SameFor s t x) → (p : Piece) → ArrivedAt s p → ArrivedAt t p
+  gone-on : (t : ReceiveChannelReliable) → t.oldest_pending_message_id ≡ oldest + 1 → ((x : ℕ) → (oldest ≡ x → ⊥) → SameFor s t x) → (p : Part) → ArrivedAt s p → ArrivedAt t p
   gone-on t e same p h =
-      by_place p.number oldest
-      (λ q. inl (inl (omega arith)))
-      (λ ne. still-arrived s t p (same p.number ne) h)
+      by_place (id_of p) oldest
+      (λ q. held-arrived t p (inl (omega arith)))
+      (λ ne. still-arrived s t p (same (id_of p) ne) h)
 
-  pub take_on : (p : Piece) → ArrivedAt s p → ArrivedAt (after_take s) p
+  pub take_on : (p : Part) → ArrivedAt s p → ArrivedAt (after_take s) p
   unfolding after_take
   take_on p h = at (in_cell_of s oldest) (in_lane_of s oldest) (get_or s.whole (lane_of s oldest) false) refl refl
     where
@@ -284,9 +276,9 @@ module _ (s : ReceiveChannelReliable) (v : Valid s) where
 
 -- ---- the logs
 
-pub record LogHas (s : ReceiveChannelReliable) (ts gs : List Piece) : Type 0 where
-  pub took : All (ArrivedAt s) ts
-  pub ignored : All (ArrivedAt s) gs
+pub record LogHas (e : Receiving) : Type 0 where
+  pub took : All (ArrivedAt e.state) e.took
+  pub ignored : All (ArrivedAt e.state) e.ignored
 
 module _ (e : Receiving) (v : Valid e.state) where
   abbrev s : ReceiveChannelReliable
@@ -294,7 +286,7 @@ module _ (e : Receiving) (v : Valid e.state) where
 
   -- ---- what arrived before is here still
 
-  pub message-onward : (id : ℕ) (bs : Bytes) {x : MessageSpot} → spots.Kept s id (length bs) (length e.small) (length e.lanes) x → (p : Piece) → ArrivedAt s p
+  pub message-onward : (id : ℕ) (bs : Bytes) {x : MessageSpot} → spots.Kept s id (length bs) (length e.small) (length e.lanes) x → (p : Part) → ArrivedAt s p
       → ArrivedAt (message_state s id (length bs) x) p
   message-onward id bs (spots.in_cell i ni q) p h =
       let c = (spot-cell s v id (length bs) (length e.small) (length e.lanes) i q).1 in
@@ -335,7 +327,7 @@ module _ (e : Receiving) (v : Valid e.state) where
       }
 
   module _ (id i l n m : ℕ) (k : SliceConstructor) (g : Goes id l k) (ok : c.collect_refusal k i n m ≡ 0) where
-    on-lane : ignores s id ≡ false → (p : Piece) → ArrivedAt s p → ArrivedAt (with_lane_of s l id (c.taken k i n)) p
+    on-lane : ignores s id ≡ false → (p : Part) → ArrivedAt s p → ArrivedAt (with_lane_of s l id (c.taken k i n)) p
     on-lane ni =
         lane-on s v l id (c.taken k i n) g.low g.before g.mine ni
         (λ q j y. rw (cv.taken-received k i n) (held-still k.received i j (g.keeps q j y)))
@@ -343,48 +335,49 @@ module _ (e : Receiving) (v : Valid e.state) where
     pub now-on-lane : ArrivedAt (with_lane_of s l id (c.taken k i n)) (piece id i)
     now-on-lane = piece-now s v l id (c.taken k i n) g.low g.before g.mine i (now-here k g.valid i n m ok)
 
-  pub slice-onward : (id num i : ℕ) (bs : Bytes) {x : SliceSpot} → spots.Placed s id num i (length bs) (length e.small) (length e.lanes) x → (p : Piece) → ArrivedAt s p
+  pub slice-onward : (id num i : ℕ) (bs : Bytes) {x : SliceSpot} → spots.Placed s id num i (length bs) (length e.small) (length e.lanes) x → (p : Part) → ArrivedAt s p
       → ArrivedAt (slice_state s id num i (length bs) x) p
   slice-onward id num i bs (spots.in-open l el ni il en ls ok) p h = on-lane id i l (length bs) _ (constructor_at s l) (goes-open id num l el il ls) ok ni p h
   slice-onward id num i bs (spots.in-fresh l el ni il ls ok) p h = on-lane id i l (length bs) _ (c.blank_of id num) (goes-fresh id num l el il ls) ok ni p h
   slice-onward id num i bs (spots.Placed.held-already q) p h = h
   slice-onward id num i bs (spots.Placed.turned-away n) p h = h
 
-  pub receives-on : (x : Entry) (p : Piece) → ArrivedAt s p → ArrivedAt (receives e x).state p
+  pub receives-on : (x : Handed) (p : Part) → ArrivedAt s p → ArrivedAt (receives e x).state p
   unfolding receives
   receives-on (message id bs) p h = message-onward id bs (message-kept s id (length bs) (length e.small) (length e.lanes)) p h
   receives-on (slice id num i bs) p h = slice-onward id num i bs (slice-placed s id num i (length bs) (length e.small) (length e.lanes)) p h
 
   -- ---- what is taken or ignored now
 
-  module _ (took ignored : List Piece) (h : LogHas s took ignored) where
+  module _ (h : LogHas e) where
     message-logs : (id : ℕ) (bs : Bytes) {x : MessageSpot} → spots.Kept s id (length bs) (length e.small) (length e.lanes) x
-        → All (ArrivedAt (message_state s id (length bs) x)) took → All (ArrivedAt (message_state s id (length bs) x)) ignored
-        → LogHas (message_state s id (length bs) x) (took_now (message_answer_of x) (piece id 0) took) (ignored_now (message_answer_of x) (piece id 0) ignored)
+        → All (ArrivedAt (message_state s id (length bs) x)) e.took → All (ArrivedAt (message_state s id (length bs) x)) e.ignored
+        → All (ArrivedAt (message_state s id (length bs) x)) (took_now (message_answer_of x) (whole id) e.took)
+        × All (ArrivedAt (message_state s id (length bs) x)) (ignored_now (message_answer_of x) (whole id) e.ignored)
     message-logs id bs (spots.in_cell i ni q) a b =
         let p = (spot-cell s v id (length bs) (length e.small) (length e.lanes) i q).1 in
-        record {
-          took = all_snoc _ took (piece id 0) a (inl (inr (message-now s v i id (length bs) (omega (arith, p.low, v.settings.slots-most)) p.free (no_cell s id ni))));
-          ignored = b;
-        }
-    message-logs id bs (spots.Kept.held-already q) a b = record { took = a; ignored = all_snoc _ ignored (piece id 0) b (inl (is-held s id q)) }
-    message-logs id bs (spots.Kept.turned-away n) a b = record { took = a; ignored = b }
+        (all_snoc _ e.took (whole id) a (inr (message-now s v i id (length bs) (omega (arith, p.low, v.settings.slots-most)) p.free (no_cell s id ni))), b)
+    message-logs id bs (spots.Kept.held-already q) a b = (a, all_snoc _ e.ignored (whole id) b (is-held s id q))
+    message-logs id bs (spots.Kept.turned-away n) a b = (a, b)
 
     slice-logs : (id num i : ℕ) (bs : Bytes) {x : SliceSpot} → spots.Placed s id num i (length bs) (length e.small) (length e.lanes) x
-        → All (ArrivedAt (slice_state s id num i (length bs) x)) took → All (ArrivedAt (slice_state s id num i (length bs) x)) ignored
-        → LogHas (slice_state s id num i (length bs) x) (took_now (slice_answer_of x) (piece id i) took) (ignored_now (slice_answer_of x) (piece id i) ignored)
+        → All (ArrivedAt (slice_state s id num i (length bs) x)) e.took → All (ArrivedAt (slice_state s id num i (length bs) x)) e.ignored
+        → All (ArrivedAt (slice_state s id num i (length bs) x)) (took_now (slice_answer_of x) (piece id i) e.took)
+        × All (ArrivedAt (slice_state s id num i (length bs) x)) (ignored_now (slice_answer_of x) (piece id i) e.ignored)
     slice-logs id num i bs (spots.in-open l el ni il en ls ok) a b =
-        record { took = all_snoc _ took (piece id i) a (now-on-lane id i l (length bs) _ (constructor_at s l) (goes-open id num l el il ls) ok); ignored = b }
+        (all_snoc _ e.took (piece id i) a (now-on-lane id i l (length bs) _ (constructor_at s l) (goes-open id num l el il ls) ok), b)
     slice-logs id num i bs (spots.in-fresh l el ni il ls ok) a b =
-        record { took = all_snoc _ took (piece id i) a (now-on-lane id i l (length bs) _ (c.blank_of id num) (goes-fresh id num l el il ls) ok); ignored = b }
-    slice-logs id num i bs (spots.Placed.held-already q) a b = record { took = a; ignored = all_snoc _ ignored (piece id i) b (inl (is-held s id q)) }
-    slice-logs id num i bs (spots.Placed.turned-away n) a b = record { took = a; ignored = b }
+        (all_snoc _ e.took (piece id i) a (now-on-lane id i l (length bs) _ (c.blank_of id num) (goes-fresh id num l el il ls) ok), b)
+    slice-logs id num i bs (spots.Placed.held-already q) a b = (a, all_snoc _ e.ignored (piece id i) b (inl (is-held s id q)))
+    slice-logs id num i bs (spots.Placed.turned-away n) a b = (a, b)
 
-    pub receives-logs : (x : Entry) → LogHas (receives e x).state (took_now (answers e x) (piece_told x) took) (ignored_now (answers e x) (piece_told x) ignored)
+    pub receives-logs : (x : Handed) → LogHas (receives e x)
     unfolding receives
     receives-logs (message id bs) =
         let k = message-kept s id (length bs) (length e.small) (length e.lanes) in
-        message-logs id bs k (all_map _ _ (message-onward id bs k) took h.took) (all_map _ _ (message-onward id bs k) ignored h.ignored)
+        let p = message-logs id bs k (all_map _ _ (message-onward id bs k) e.took h.took) (all_map _ _ (message-onward id bs k) e.ignored h.ignored) in
+        record { took = p.0; ignored = p.1 }
     receives-logs (slice id num i bs) =
         let k = slice-placed s id num i (length bs) (length e.small) (length e.lanes) in
-        slice-logs id num i bs k (all_map _ _ (slice-onward id num i bs k) took h.took) (all_map _ _ (slice-onward id num i bs k) ignored h.ignored)
+        let p = slice-logs id num i bs k (all_map _ _ (slice-onward id num i bs k) e.took h.took) (all_map _ _ (slice-onward id num i bs k) e.ignored h.ignored) in
+        record { took = p.0; ignored = p.1 }

@@ -5,7 +5,6 @@ use mathlib.Core.Path.{◌≡◌, refl, sym, ap, ◌∙◌, subst}
 use mathlib.Core.Bool.{Bool, true, false}
 use mathlib.Core.List.{List, [], ◌∷◌, ◌++◌, map}
 use mathlib.Core.Logic.{◌⊎◌, inl, inr}
-use mathlib.Core.Option.{Option, none, some}
 use native.Mathlib.Omega.{arith}
 use lib.ListN.{length, get_or, set, length-take}
 use lib.Seq.{get_or-set_same, get_or-take}
@@ -21,34 +20,33 @@ use Rattle.pack.specs.Pack.{Item, is_small, Pack, group, single, pack}
 use Rattle.pack.specs.Rows.{smalls}
 use Rattle.pack.specs.Laws.{pieces, grouped, singles}
 use Rattle.pack.proofs.Theorems.{smalls-kept, pieces_kept}
-use Rattle.send_reliable.specs.declared.LastSent.{LastSent}
-use Rattle.send_reliable.specs.declared.LastSent.TheVariants.{Never, At}
+use Rattle.send_reliable.specs.declared.Sent.{Sent}
+use Rattle.send_reliable.specs.declared.Sent.TheVariants.{Never, At}
 use Rattle.send_reliable.specs.declared.Sending.{Sending}
 use Rattle.send_reliable.specs.declared.Kind.{Kind}
 use Rattle.send_reliable.specs.declared.Kind.TheVariants.{Small, Sliced}
 use Rattle.send_reliable.specs.declared.Row.{Row}
-use Rattle.send_reliable.specs.declared.Piece.{Piece as Flag}
+use Rattle.send_reliable.specs.declared.Piece.{Piece}
 use Rattle.send_reliable.specs.declared.SendChannelReliable.{SendChannelReliable}
 use Rattle.send_reliable.specs.Sender.{last_sent_of, kind_of, as_row, no_row, no_piece, live, SentBy, PlacedKind, Placed, Apart, Before, Valid}
 use Rattle.send_reliable.specs.Select.{Visit, up_from, row_visits, visits_from, due, sent_at, Chosen, visit, visit_kind, select}
 use Rattle.send_reliable.specs.Round.{Given, chosen, packs, state_after}
-use Rattle.delivery.specs.Calls.{Piece, piece}
-use Rattle.delivery.specs.Rounds.{In, here, there, Spaced}
-use Rattle.delivery.proofs.Sender.{acked_at}
+use Rattle.delivery.specs.World.{Part, whole, piece}
+use Rattle.delivery.specs.Window.{In, here, there, acked_at, Spaced}
 use Rattle.delivery.proofs.Lists.{in_left, in_right, in-cases, in_map, all_get_d, front-head, head-front, reached-append}
 use Rattle.delivery.proofs.Rotate.{Walk, walk, Walked, walked, queue_at, Rotates, turned, queue-same}
 use Rattle.delivery.proofs.Walk.{Told, told, bare_kind, Kept, kept-visits, Elsewhere, Away, away-visits, Other, rows_behind, item_at, Followed, followed}
 
 -- ---- the pieces of the items are in the packets
 
-abbrev pub part_of : Item → Piece
-part_of i = pick (is_small i) (piece i.id 0) (piece i.id i.index)
+abbrev pub part_of : Item → Part
+part_of i = pick (is_small i) (whole i.id) (piece i.id i.index)
 
-abbrev pub parts_in : Pack → List Piece
+abbrev pub parts_in : Pack → List Part
 parts_in (group is) = map part_of is
 parts_in (single i) = part_of i ∷ []
 
-unfoldable pub all_parts : List Pack → List Piece
+unfoldable pub all_parts : List Pack → List Part
 all_parts [] = []
 all_parts (p ∷ ps) = parts_in p ++ all_parts ps
 
@@ -92,32 +90,32 @@ UnsentKind (Sliced l a next) = Unit
 abbrev pub UnsentRow : Row → Type 0
 UnsentRow r = UnsentKind (kind_of r)
 
-abbrev pub UnsentPiece : Flag → Type 0
+abbrev pub UnsentPiece : Piece → Type 0
 UnsentPiece p = last_sent_of p.sending ≡ Never
 
-abbrev pub Clocked : Option ℕ → SendChannelReliable → Type 0
-Clocked none s = All UnsentRow s.rows × All UnsentPiece s.pieces
-Clocked (some t) s = t ≡ s.latest
+abbrev pub Clocked : Sent → SendChannelReliable → Type 0
+Clocked Never s = All UnsentRow s.rows × All UnsentPiece s.pieces
+Clocked (At t) s = t ≡ s.latest
 
-due-old : (resend now latest : ℕ) (t : LastSent) → SentBy latest t → latest + resend ≤ now → due resend now t ≡ true
+due-old : (resend now latest : ℕ) (t : Sent) → SentBy latest t → latest + resend ≤ now → due resend now t ≡ true
 due-old resend now latest Never b h = refl
 due-old resend now latest (At t) b h = le-leb resend (now - t) (omega arith)
 
-due-never : (resend now : ℕ) (t : LastSent) → t ≡ Never → due resend now t ≡ true
+due-never : (resend now : ℕ) (t : Sent) → t ≡ Never → due resend now t ≡ true
 due-never resend now t e = ap (due resend now) e
 
 module _ (s : SendChannelReliable) (v : Valid s) (now : ℕ) where
-  pub piece-due : (last : Option ℕ) → Clocked last s → Spaced s.resend_time last now → (p : ℕ)
+  pub piece-due : (last : Sent) → Clocked last s → Spaced s.resend_time last now → (p : ℕ)
       → due s.resend_time now (last_sent_of (get_or s.pieces p no_piece).sending) ≡ true
-  piece-due none c h p = due-never s.resend_time now _ (all_get_d UnsentPiece s.pieces p no_piece c.1 refl)
-  piece-due (some t) c h p =
+  piece-due Never c h p = due-never s.resend_time now _ (all_get_d UnsentPiece s.pieces p no_piece c.1 refl)
+  piece-due (At t) c h p =
       due-old s.resend_time now s.latest (last_sent_of (get_or s.pieces p no_piece).sending)
-      (all_get_d (λ (x : Flag). SentBy s.latest (last_sent_of x.sending)) s.pieces p no_piece v.pieces-sent tt) (omega arith)
+      (all_get_d (λ (x : Piece). SentBy s.latest (last_sent_of x.sending)) s.pieces p no_piece v.pieces-sent tt) (omega arith)
 
-  pub small-due : (last : Option ℕ) → Clocked last s → Spaced s.resend_time last now → (i : ℕ) (t : Sending) → kind_of (get_or s.rows 0 no_row) ≡ Small i t
+  pub small-due : (last : Sent) → Clocked last s → Spaced s.resend_time last now → (i : ℕ) (t : Sending) → kind_of (get_or s.rows 0 no_row) ≡ Small i t
       → SentBy s.latest (last_sent_of t) → due s.resend_time now (last_sent_of t) ≡ true
-  small-due none c h i t e b = due-never s.resend_time now _ (subst UnsentKind e (all_get_d UnsentRow s.rows 0 no_row c.0 refl))
-  small-due (some u) c h i t e b = due-old s.resend_time now s.latest (last_sent_of t) b (omega arith)
+  small-due Never c h i t e b = due-never s.resend_time now _ (subst UnsentKind e (all_get_d UnsentRow s.rows 0 no_row c.0 refl))
+  small-due (At u) c h i t e b = due-old s.resend_time now s.latest (last_sent_of t) b (omega arith)
 
 -- ---- the queue of a waiting message
 
@@ -129,14 +127,14 @@ abbrev pub queue_of : SendChannelReliable → Row → List ℕ
 queue_of s r = queue_kind s r.len (kind_of r)
 
 -- its y-th piece
-abbrev pub part_kind_of : ℕ → Kind → ℕ → Piece
-part_kind_of id (Small i t) y = piece id 0
+abbrev pub part_kind_of : ℕ → Kind → ℕ → Part
+part_kind_of id (Small i t) y = whole id
 part_kind_of id (Sliced l a next) y = piece id y
 
-abbrev pub part_at : Row → ℕ → Piece
+abbrev pub part_at : Row → ℕ → Part
 part_at r y = part_kind_of r.id.0 (kind_of r) y
 
-pub record Turns (s s' : SendChannelReliable) (r : Row) (parts : List Piece) : Type 0 where
+pub record Turns (s s' : SendChannelReliable) (r : Row) (parts : List Part) : Type 0 where
   pub row : Row
   pub rest : List Row
   pub head : live s' ≡ row ∷ rest
@@ -394,7 +392,7 @@ module _ (s : SendChannelReliable) (v : Valid s) (r : Row) (rs : List Row) (h : 
 
     -- ---- either way
 
-    pub turns : (last : Option ℕ) → Clocked last s → Spaced s.resend_time last g.now → SLICE_SIZE ≤ g.allowance → Turns s (state_after s g) r (all_parts (packs s g))
+    pub turns : (last : Sent) → Clocked last s → Spaced s.resend_time last g.now → SLICE_SIZE ≤ g.allowance → Turns s (state_after s g) r (all_parts (packs s g))
     turns last c sp enough = at (kind_of r) refl
       where
         at : (kd : Kind) → kind_of r ≡ kd → Turns s (state_after s g) r (all_parts (packs s g))

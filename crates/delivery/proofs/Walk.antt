@@ -21,7 +21,7 @@ use Rattle.pack.specs.Pack.{Item}
 use Rattle.send_reliable.specs.declared.Kind.{Kind}
 use Rattle.send_reliable.specs.declared.Kind.TheVariants.{Small, Sliced}
 use Rattle.send_reliable.specs.declared.Row.{Row}
-use Rattle.send_reliable.specs.declared.Piece.{Piece as Flag}
+use Rattle.send_reliable.specs.declared.Piece.{Piece}
 use Rattle.send_reliable.specs.Sender.{last_sent_of, kind_of, as_row, unsent, no_row, no_piece}
 use Rattle.send_reliable.specs.Select.{Visit, up_from, row_visits, visits_from, due, sent_at, Chosen, visit_piece, visit_kind, visit}
 use Rattle.delivery.proofs.Lists.{append-nil, set_keeps}
@@ -88,7 +88,7 @@ module _ (st : Settings) (resend now : ℕ) where
       (λ _. pick-cases (Kept c) (due resend now (last_sent_of (get_or c.pieces (l * PIECES + i) no_piece).sending))
       (λ _. record {
         rows = set_keeps bare c.rows k _ no_row (sym (ap bare e ∙ ap (λ (x : Kind). record { id = r.id; len = r.len; kind = bare_kind x }) f));
-        acked = set_keeps (λ (p : Flag). p.acked) c.pieces (l * PIECES + i) _ no_piece refl;
+        acked = set_keeps (λ (p : Piece). p.acked) c.pieces (l * PIECES + i) _ no_piece refl;
         rows_long = length-set c.rows k _;
         pieces-long = length-set c.pieces (l * PIECES + i) _;
         more = _;
@@ -199,7 +199,7 @@ module _ (st : Settings) (resend now : ℕ) (id : MessageId) (len l a : ℕ) (f 
   abbrev pub item_at : ℕ → Item
   item_at i = record { num = pieces_of len; id = id.0; index = i; place = l * lane_len_of st + i * SLICE_SIZE; len = piece_len_of len i }
 
-  abbrev piece_in : Chosen → ℕ → Flag
+  abbrev piece_in : Chosen → ℕ → Piece
   piece_in c i = get_or c.pieces (l * PIECES + i) no_piece
 
   abbrev sent_piece : Chosen → ℕ → Chosen
@@ -211,7 +211,7 @@ module _ (st : Settings) (resend now : ℕ) (id : MessageId) (len l a : ℕ) (f 
         pieces = set c.pieces (l * PIECES + i) (record { acked = (piece_in c i).acked; sending = sent_at now });
       }
 
-  abbrev Due : Flag → Type 0
+  abbrev Due : Piece → Type 0
   Due p = due resend now (last_sent_of p.sending) ≡ true
 
   visit-is : (c : Chosen) (i next : ℕ) → told (get_or c.rows 0 no_row) ≡ row_at next → (piece_in c i).acked ≡ f i → Due (piece_in c i)
@@ -297,5 +297,5 @@ module _ (st : Settings) (resend now : ℕ) (id : MessageId) (len l a : ℕ) (f 
       (followed n (i + 1) (i + 1) (sent_piece c i)
       (rw length-set long)
       (ap told (get_or-set_same c.rows 0 (as_row id len (Sliced l a (i + 1))) no_row long))
-      (λ j. set_keeps (λ (p : Flag). p.acked) c.pieces (l * PIECES + i) (record { acked = (piece_in c i).acked; sending = sent_at now }) no_piece refl (l * PIECES + j) ∙ e j)
+      (λ j. set_keeps (λ (p : Piece). p.acked) c.pieces (l * PIECES + i) (record { acked = (piece_in c i).acked; sending = sent_at now }) no_piece refl (l * PIECES + j) ∙ e j)
       (λ j h m. rw (get_or-set_other c.pieces (l * PIECES + i) (l * PIECES + j) (record { acked = (piece_in c i).acked; sending = sent_at now }) no_piece (omega arith)) (d j (omega arith) (omega arith))))))

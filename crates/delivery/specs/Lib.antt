@@ -1,12 +1,4 @@
-pub mod Pair
-pub mod Calls
 pub mod World
-pub mod Prefix
-pub mod Rounds
-pub mod Arrival
-pub mod Premise
-pub mod Tables
-pub mod Stream
-pub mod StreamRuns
-pub mod Facts
-pub mod Witness
+pub mod Window
+pub mod Statements
+pub mod Example

@@ -3,46 +3,33 @@
 //
 // Each line says a call of `packet::encode` or `packet::decode`, its answer, and a digest of the memory that
 // it wrote to, lent or not: a byte or word that should have stayed shows.
-ghost use Rattle.std.specs.Prelude.{◌≡◌, ◌+◌, ◌*◌, length};
-ghost use Rattle.words.specs.Sizes.{MAX_MESSAGES};
-ghost use Rattle.packet_small.specs.Small.{RECORD};
+ghost use Rattle.std.specs.Prelude.{◌≡◌, length};
 
 use octets::Put;
 use packet::{Decoded, Packet};
 use packet_ack::{RANGES, Range};
-use packet_small::{HEAD, RECORD, Small};
-use words::{LIMIT, MAX_MESSAGES, Refusal, Sequence};
+use packet_small::Small;
+use words::{LIMIT, Refusal, Sequence};
 
 // The most messages that a packet counts, and one more.
-const MOST: usize = MAX_MESSAGES;
+const MOST: usize = 65_535;
 
-const MORE: usize = MOST + 1;
+const MORE: usize = 65_536;
 
-// The words of their tables. The last message stands behind those of the most.
-const MOST_WORDS: usize = RECORD * MOST;
+// The words of their tables, three for each message. The last message stands behind those of the most.
+const MOST_WORDS: usize = 196_605;
 
-const MORE_WORDS: usize = RECORD * MORE;
+const MORE_WORDS: usize = 196_608;
 
-// More bytes than any of these packets has: an id and a length for each message, and some to spare.
-const ROOM: usize = 2 * MORE + 16;
+// More bytes than any of these packets has.
+const ROOM: usize = 131_088;
 
 // The bytes of the store, a length that takes four bytes; one less, which takes two; one more than there are.
-const STORE: usize = 1 << 14;
+const STORE: usize = 16_384;
 
-const SHORTER: usize = STORE - 1;
+const SHORTER: usize = 16_383;
 
-const PAST: usize = STORE + 1;
-
-// The bytes before the messages, where the sequence takes one.
-const FRONT: usize = HEAD + 1;
-
-// The bytes of a packet without ids: of the most messages, all empty; of one message with a length of two bytes, and
-// of one with a length of four. An id takes one byte more.
-const MOST_BYTES: usize = FRONT + MOST;
-
-const SHORTER_BYTES: usize = FRONT + 2 + SHORTER;
-
-const LONGER_BYTES: usize = FRONT + 4 + STORE;
+const PAST: usize = 16_385;
 
 // What lent memory holds at first.
 const BYTE: u8 = 0xa5;
@@ -50,8 +37,8 @@ const BYTE: u8 = 0xa5;
 const WORD: u64 = 0xa5a5_a5a5_a5a5_a5a5;
 
 fn main() {
-    kind(0, MOST_BYTES + MOST, SHORTER_BYTES + 1, LONGER_BYTES + 1);
-    kind(1, MOST_BYTES, SHORTER_BYTES, LONGER_BYTES);
+    kind(0, 131_075, 16_391, 16_394);
+    kind(1, 65_540, 16_390, 16_393);
 }
 
 // The cases of a type of packet, with the bytes that it takes for the most messages, all empty, and for a long one.
@@ -111,13 +98,13 @@ fn named(kind: u8, p: Small) -> Packet {
 }
 
 fn table(v: u64) -> [u64; MORE_WORDS]
-    ensures { RECORD * (MAX_MESSAGES + 1) ≡ length result }
+    ensures { 196608 ≡ length result }
 {
     [v; MORE_WORDS]
 }
 
 fn bytes(v: u8) -> [u8; ROOM]
-    ensures { 2 * (MAX_MESSAGES + 1) + 16 ≡ length result }
+    ensures { 131088 ≡ length result }
 {
     [v; ROOM]
 }

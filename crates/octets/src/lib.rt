@@ -14,39 +14,6 @@ ghost use Rattle.octets.specs.Varint.{var_len, var_bytes, pair_bytes, run_bytes,
 
 use words::{LIMIT, Refusal};
 
-// What one byte counts to, and two, and four.
-const BYTE: u64 = 1 << 8;
-
-const PAIR: u64 = 1 << 16;
-
-const QUAD: u64 = 1 << 32;
-
-// Halves of a number of two bytes, and of four, are taken by these.
-const HALF_OF_PAIR: u16 = BYTE as u16;
-
-const HALF_OF_QUAD: u32 = PAIR as u32;
-
-// A form of one byte holds what is below this, one of two, and one of four: 6, 14 and 30 bits.
-const ONE: u64 = 1 << 6;
-
-const TWO: u64 = 1 << 14;
-
-const FOUR: u64 = 1 << 30;
-
-// The first byte of a form of two bytes is at least this, and of four, and of eight.
-const FIRST_OF_TWO: u8 = 1 << 6;
-
-const FIRST_OF_FOUR: u8 = 2 << 6;
-
-const FIRST_OF_EIGHT: u8 = 3 << 6;
-
-// The tags 1, 2 and 3 above what a form holds; of eight bytes, above what its first four hold.
-const TAG_OF_TWO: u64 = TWO;
-
-const TAG_OF_FOUR: u64 = 2 * FOUR;
-
-const TAG_OF_EIGHT: u64 = 3 * FOUR;
-
 // What stands at a place: a number and the place after it, or the input ends early.
 #[derive(Drop)]
 pub enum Got {
@@ -72,13 +39,13 @@ pub enum Put {
 pub fn form_len(v: u64) -> usize
     ensures { (result ≡ var_len v) × (result ≤ 8) }
 {
-    if v < ONE {
+    if v < 64 {
         return 1;
     }
-    if v < TWO {
+    if v < 16384 {
         return 2;
     }
-    if v < FOUR {
+    if v < 1073741824 {
         return 4;
     }
     8
@@ -96,7 +63,7 @@ pub fn varint_len(v: u64) -> Put
 
 // A byte as a number that can be added to.
 fn wide(b: u8) -> u64
-    ensures { (result ≡ b) × (result < 2 ^ 8) }
+    ensures { (result ≡ b) × (result < 256) }
 {
     b as u64
 }
@@ -104,17 +71,17 @@ fn wide(b: u8) -> u64
 // The number of two bytes that are there, the higher first.
 fn u16_at(s: &[u8], at: usize) -> u64
     requires { at + 2 ≤ length s.now }
-    ensures { (result ≡ pair_at s.now at) × (result < 2 ^ 16) }
+    ensures { (result ≡ pair_at s.now at) × (result < 65536) }
 {
-    wide(s[at]) * BYTE + wide(s[at + 1])
+    wide(s[at]) * 256 + wide(s[at + 1])
 }
 
 // The number of four bytes that are there, the highest first.
 fn u32_at(s: &[u8], at: usize) -> u64
     requires { at + 4 ≤ length s.now }
-    ensures { (result ≡ quad_at s.now at) × (result < 2 ^ 32) }
+    ensures { (result ≡ quad_at s.now at) × (result < 4294967296) }
 {
-    u16_at(s, at) * PAIR + u16_at(s, at + 2)
+    u16_at(s, at) * 65536 + u16_at(s, at + 2)
 }
 
 // The byte at a place.
@@ -150,26 +117,26 @@ pub fn get_varint(s: &[u8], at: usize) -> Got
     }
     let room = s.len() - at;
     let b = s[at];
-    if b < FIRST_OF_TWO {
+    if b < 64 {
         return Got::Value(wide(b), at + 1);
     }
     if room < 2 {
         return Got::Short;
     }
-    if b < FIRST_OF_FOUR {
-        return Got::Value(u16_at(s, at) - TAG_OF_TWO, at + 2);
+    if b < 128 {
+        return Got::Value(u16_at(s, at) - 16384, at + 2);
     }
     if room < 4 {
         return Got::Short;
     }
-    if b < FIRST_OF_EIGHT {
-        return Got::Value(u32_at(s, at) - TAG_OF_FOUR, at + 4);
+    if b < 192 {
+        return Got::Value(u32_at(s, at) - 2147483648, at + 4);
     }
     if room < 8 {
         return Got::Short;
     }
-    let high = u32_at(s, at) - TAG_OF_EIGHT;
-    Got::Value(high * QUAD + u32_at(s, at + 4), at + 8)
+    let high = u32_at(s, at) - 3221225472;
+    Got::Value(high * 4294967296 + u32_at(s, at + 4), at + 8)
 }
 
 // The bytes at a place that have their length before them.
@@ -191,8 +158,8 @@ pub fn write_u16(out: &mut [u8], at: usize, v: u16) -> usize
     requires { at + 2 ≤ length out.old }
     ensures { (result ≡ at + 2) × (out.new ≡ splice at (pair_bytes v) out.old) }
 {
-    out[at] = (v / HALF_OF_PAIR) as u8;
-    out[at + 1] = (v % HALF_OF_PAIR) as u8;
+    out[at] = (v / 256) as u8;
+    out[at + 1] = (v % 256) as u8;
     at + 2
 }
 
@@ -201,8 +168,8 @@ fn write_u32(out: &mut [u8], at: usize, v: u32) -> usize
     requires { at + 4 ≤ length out.old }
     ensures { (result ≡ at + 4) × (out.new ≡ splice at (quad_bytes v) out.old) }
 {
-    let a = write_u16(out, at, (v / HALF_OF_QUAD) as u16);
-    write_u16(out, a, (v % HALF_OF_QUAD) as u16)
+    let a = write_u16(out, at, (v / 65536) as u16);
+    write_u16(out, a, (v % 65536) as u16)
 }
 
 // Writes the shortest form of a number that was judged to fit, and answers the place after it.
@@ -212,18 +179,18 @@ pub fn write_varint(out: &mut [u8], at: usize, v: u64) -> usize
     requires v_in_bounds { at + var_len v ≤ length out.old }
     ensures { (result ≡ at + var_len v) × (out.new ≡ splice at (var_bytes v) out.old) }
 {
-    if v < ONE {
+    if v < 64 {
         out[at] = v as u8;
         return at + 1;
     }
-    if v < TWO {
-        return write_u16(out, at, (TAG_OF_TWO + v) as u16);
+    if v < 16384 {
+        return write_u16(out, at, (16384 + v) as u16);
     }
-    if v < FOUR {
-        return write_u32(out, at, (TAG_OF_FOUR + v) as u32);
+    if v < 1073741824 {
+        return write_u32(out, at, (2147483648 + v) as u32);
     }
-    let a = write_u32(out, at, (TAG_OF_EIGHT + v / QUAD) as u32);
-    write_u32(out, a, (v % QUAD) as u32)
+    let a = write_u32(out, at, (3221225472 + v / 4294967296) as u32);
+    write_u32(out, a, (v % 4294967296) as u32)
 }
 
 // Writes bytes with their length before them, which were judged to fit, and answers the place after.

@@ -1,18 +1,17 @@
--- Laws of a round's packets: they spend what their payloads are long, each item is in one packet and in order, no group is empty or too full, no
--- packet is too long, there are no more packets than items, what may go may go packed, and the packets lie where the table says. Assumes nothing.
-use Prim.Native.Nat.{ℕ, ◌+◌, ◌*◌, ◌≤◌, ◌<◌}
+-- Laws of a round's packets: they spend what their payloads are long, each item is in one packet and in order, no group is too full, no packet
+-- is too long, there is at most one packet more than items, what may go may go packed, and the packets lie where the table says. Assumes nothing.
+use Prim.Native.Nat.{ℕ, ◌+◌, ◌*◌, ◌≤◌}
 use mathlib.Core.Path.{◌≡◌, refl, sym, ap, ◌∙◌}
 use mathlib.Core.Bool.{Bool, true, false}
 use mathlib.Core.List.{List, [], ◌∷◌, ◌++◌, append_assoc}
-use mathlib.Core.Logic.{◌⊎◌, inl, inr}
+use mathlib.Core.Logic.{inl, inr}
 use native.Mathlib.Omega.{arith}
-use borrow.Author.Tests.{ltb-true, ltb-false, lt-ltb, leb-true, le-leb, eqb-true, eq-eqb}
-use lib.Dec.{ltb, leb, eqb}
-use lib.ListN.{length, drop, length-append}
+use borrow.Author.Tests.{ltb-true, ltb-false}
+use lib.Dec.{ltb}
+use lib.ListN.{length, drop}
 use Rattle.words.specs.Sizes.{LIMIT, SLICE_SIZE}
-use Rattle.words.specs.Choice.{pick}
 use Rattle.words.specs.Lists.{total, All}
-use Rattle.words.proofs.Lists.{total-snoc, all_snoc, all_both, none-refused}
+use Rattle.words.proofs.Lists.{total-snoc, all_snoc, all_map, none-refused}
 use Rattle.words.proofs.Splice.{drop-splice}
 use Rattle.words.proofs.Suffix.{past, run, drop-at-splice}
 use Rattle.octets.specs.Varint.{var_len}
@@ -20,9 +19,9 @@ use Rattle.pack.specs.Pack.{Item, items_in, is_small, Pack, group, single, packe
 use Rattle.pack.specs.Encode.{Lent, packets_bytes, end_to_end, ENTRY, round_refusal, out_after}
 use Rattle.pack.specs.Rows.{PACK, smalls, pack_len, packets_len, Packs, Sendable, Chosen, PackGoes, Ready, round_number}
 use Rattle.pack.specs.declared.Packed.{Packed}
-use Rattle.pack.specs.Laws.{pieces, grouped, singles, well_packed, WellPacked, LONGEST, Lie, none_lie, one_lies}
+use Rattle.pack.specs.Laws.{pieces, grouped, singles, WellPacked, LONGEST, Lie, none_lie, one_lies}
 use Rattle.pack.proofs.Lengths.{var-most, message-most, slice-most, length-packets}
-use Rattle.pack.proofs.Turns.{pick_same, packed-piece, packed-close, packed_join}
+use Rattle.pack.proofs.Turns.{packed-piece, packed-close, packed_join}
 
 -- ---- the turns of packing, as one case lemma
 
@@ -31,23 +30,21 @@ module _ (ids : Bool) (P : ℕ → List Item → List Item → List Pack → Typ
     (last_empty : (sum : ℕ) → P sum [] [] [])
     (last-group : (sum : ℕ) (i : Item) (is : List Item) → P sum (i ∷ is) [] (group (i ∷ is) ∷ []))
     (piece : (sum : ℕ) (g : List Item) (x : Item) (rest : List Item) (ps : List Pack) → is_small x ≡ false → P sum g rest ps → P sum g (x ∷ rest) (single x ∷ ps))
-    (close : (sum : ℕ) (g : List Item) (x : Item) (rest : List Item) (ps : List Pack) → is_small x ≡ true → 0 < length g → P (packed_len ids x) (x ∷ []) rest ps → P sum g (x ∷ rest) (group g ∷ ps))
-    (join : (sum : ℕ) (g : List Item) (x : Item) (rest : List Item) (ps : List Pack) → is_small x ≡ true → (sum + packed_len ids x ≤ SLICE_SIZE) ⊎ (length g ≤ 0)
+    (close : (sum : ℕ) (g : List Item) (x : Item) (rest : List Item) (ps : List Pack) → is_small x ≡ true → P (packed_len ids x) (x ∷ []) rest ps → P sum g (x ∷ rest) (group g ∷ ps))
+    (join : (sum : ℕ) (g : List Item) (x : Item) (rest : List Item) (ps : List Pack) → is_small x ≡ true → sum + packed_len ids x ≤ SLICE_SIZE
     → P (sum + packed_len ids x) (g ++ (x ∷ [])) rest ps → P sum g (x ∷ rest) ps) where
   one-turn : (sum : ℕ) (g : List Item) (x : Item) (rest : List Item) → ((sum : ℕ) (g : List Item) → P sum g rest (packed ids sum g rest))
-      → (s over some : Bool) → is_small x ≡ s → ltb SLICE_SIZE (sum + packed_len ids x) ≡ over → ltb 0 (length g) ≡ some → P sum g (x ∷ rest) (packed ids sum g (x ∷ rest))
-  one-turn sum g x rest r false over some e o k = rw (packed-piece ids sum g x rest e) (piece sum g x rest _ e (r sum g))
-  one-turn sum g x rest r true true true e o k =
-      let h = ltb-true 0 (length g) k in rw (packed-close ids sum g x rest e (ltb-true SLICE_SIZE _ o) h) (close sum g x rest _ e h (r (packed_len ids x) (x ∷ [])))
-  one-turn sum g x rest r true true false e o k = let h = inr (ltb-false 0 (length g) k) in rw (packed_join ids sum g x rest e h) (join sum g x rest _ e h (r (sum + packed_len ids x) (g ++ (x ∷ []))))
-  one-turn sum g x rest r true false some e o k =
-      let h = inl (ltb-false SLICE_SIZE (sum + packed_len ids x) o) in rw (packed_join ids sum g x rest e h) (join sum g x rest _ e h (r (sum + packed_len ids x) (g ++ (x ∷ []))))
+      → (s over : Bool) → is_small x ≡ s → ltb SLICE_SIZE (sum + packed_len ids x) ≡ over → P sum g (x ∷ rest) (packed ids sum g (x ∷ rest))
+  one-turn sum g x rest r false over e o = rw (packed-piece ids sum g x rest e) (piece sum g x rest _ e (r sum g))
+  one-turn sum g x rest r true true e o = rw (packed-close ids sum g x rest e (ltb-true SLICE_SIZE _ o)) (close sum g x rest _ e (r (packed_len ids x) (x ∷ [])))
+  one-turn sum g x rest r true false e o =
+      let h = ltb-false SLICE_SIZE (sum + packed_len ids x) o in rw (packed_join ids sum g x rest e h) (join sum g x rest _ e h (r (sum + packed_len ids x) (g ++ (x ∷ []))))
 
   pub by-turns : (is : List Item) (sum : ℕ) (g : List Item) → P sum g is (packed ids sum g is)
   unfolding packed
   by-turns [] sum [] = last_empty sum
   by-turns [] sum (i ∷ g) = last-group sum i g
-  by-turns (x ∷ rest) sum g = one-turn sum g x rest (by-turns rest) (is_small x) (ltb SLICE_SIZE (sum + packed_len ids x)) (ltb 0 (length g)) refl refl refl
+  by-turns (x ∷ rest) sum g = one-turn sum g x rest (by-turns rest) (is_small x) (ltb SLICE_SIZE (sum + packed_len ids x)) refl refl
 
 -- ---- a round spends the payload bytes of its packets
 
@@ -58,7 +55,7 @@ payload-kept ids is =
     (λ sum. refl)
     (λ sum i is. refl)
     (λ sum g x rest ps e r. omega arith)
-    (λ sum g x rest ps e k r. omega arith)
+    (λ sum g x rest ps e r. omega arith)
     (λ sum g x rest ps e h r. let s = total-snoc (λ (i : Item). i.len) g x in omega arith)
     is 0 [] in omega arith
 
@@ -71,7 +68,7 @@ smalls-kept ids is =
     (λ sum. refl)
     (λ sum i is. refl)
     (λ sum g x rest ps e r. simp e r)
-    (λ sum g x rest ps e k r. simp e (ap (λ (l : List Item). g ++ l) r))
+    (λ sum g x rest ps e r. simp e (ap (λ (l : List Item). g ++ l) r))
     (λ sum g x rest ps e h r. simp e (r ∙ append_assoc g (x ∷ []) (smalls rest)))
     is 0 []
 
@@ -82,55 +79,60 @@ pieces_kept ids is =
     (λ sum. refl)
     (λ sum i is. refl)
     (λ sum g x rest ps e r. simp e (ap (λ (l : List Item). x ∷ l) r))
-    (λ sum g x rest ps e k r. simp e r)
+    (λ sum g x rest ps e r. simp e r)
     (λ sum g x rest ps e h r. simp e r)
     is 0 []
 
--- ---- how many, how full
+-- ---- how many, how full, how long
 
--- no more packets than items, since each holds one
-pub few-packets : (ids : Bool) (is : List Item) → length (pack ids is) ≤ length is
+pub few-packets : (ids : Bool) (is : List Item) → length (pack ids is) ≤ length is + 1
 unfolding pack
 few-packets ids is =
-    let r = by-turns ids (λ sum g is ps. length ps ≤ length is + length g)
+    by-turns ids (λ sum g is ps. length ps ≤ length is + 1)
     (λ sum. omega arith)
     (λ sum i is. omega arith)
     (λ sum g x rest ps e r. omega arith)
-    (λ sum g x rest ps e k r. omega arith)
-    (λ sum g x rest ps e h r. omega (arith, length-append g (x ∷ [])))
-    is 0 [] in omega arith
-
--- what a well packed group is: it isn't empty, and packs to at most 1,200 or holds one message
-pub well-says : (ids : Bool) (is : List Item) → well_packed ids is ≡ true → (0 < length is) × ((total (packed_len ids) is ≤ SLICE_SIZE) ⊎ (length is ≡ 1))
-well-says ids is = by (ltb 0 (length is)) (leb (total (packed_len ids) is) SLICE_SIZE) refl refl
-  where
-    by : (some fits : Bool) → ltb 0 (length is) ≡ some → leb (total (packed_len ids) is) SLICE_SIZE ≡ fits → pick some (pick fits true (eqb (length is) 1)) false ≡ true
-        → (0 < length is) × ((total (packed_len ids) is ≤ SLICE_SIZE) ⊎ (length is ≡ 1))
-    by false fits s f e = absurd (let z : ◌≡◌ {A = ℕ} 0 1 = cc in omega arith)
-    by true true s f e = (ltb-true 0 (length is) s, inl (leb-true (total (packed_len ids) is) SLICE_SIZE f))
-    by true false s f e = (ltb-true 0 (length is) s, inr (eqb-true (length is) 1 e))
-
-pub says-well : (ids : Bool) (is : List Item) → 0 < length is → (total (packed_len ids) is ≤ SLICE_SIZE) ⊎ (length is ≡ 1) → well_packed ids is ≡ true
-says-well ids is h (inl k) = simp (lt-ltb 0 (length is) h, le-leb (total (packed_len ids) is) SLICE_SIZE k)
-says-well ids is h (inr k) = simp (lt-ltb 0 (length is) h, eq-eqb (length is) 1 k, pick_same (leb (total (packed_len ids) is) SLICE_SIZE) true)
-
--- the fit of a group that is joined by a message, or begun by one
-fit-joined : (ids : Bool) (g : List Item) (x : Item) → (total (packed_len ids) g + packed_len ids x ≤ SLICE_SIZE) ⊎ (length g ≤ 0) → (total (packed_len ids) (g ++ (x ∷ [])) ≤ SLICE_SIZE) ⊎ (length (g ++ (x ∷ [])) ≡ 1)
-fit-joined ids g x (inl h) = inl (rw total-snoc h)
-fit-joined ids g x (inr h) = inr (rw length-append (omega arith))
+    (λ sum g x rest ps e r. omega arith)
+    (λ sum g x rest ps e h r. omega arith)
+    is 0 []
 
 pub well-packed : (ids : Bool) (is : List Item) → All (WellPacked ids) (pack ids is)
 unfolding pack All total
 well-packed ids is =
-    by-turns ids (λ sum g is ps. sum ≡ total (packed_len ids) g → (0 < length g → WellPacked ids (group g)) → All (WellPacked ids) ps)
+    by-turns ids (λ sum g is ps. sum ≡ total (packed_len ids) g → WellPacked ids (group g) → All (WellPacked ids) ps)
     (λ sum q w. tt)
-    (λ sum i is q w. (w (omega arith), tt))
+    (λ sum i is q w. (w, tt))
     (λ sum g x rest ps e r q w. (tt, r q w))
-    (λ sum g x rest ps e k r q w. (w k, r (omega arith) (λ _. says-well ids (x ∷ []) (omega arith) (inr refl))))
-    (λ sum g x rest ps e h r q w. let s = total-snoc (packed_len ids) g x in r (omega arith) (λ k. says-well ids (g ++ (x ∷ [])) k (fit-joined ids g x (rw q at h))))
-    is 0 [] refl (λ h. absurd (omega arith))
+    (λ sum g x rest ps e r q w. (w, r (omega arith) (inr (omega arith))))
+    (λ sum g x rest ps e h r q w. let s = total-snoc (packed_len ids) g x in r (omega arith) (inl (omega arith)))
+    is 0 [] refl (inr (omega arith))
 
--- ---- what may go, and how long it is
+-- a group that is well packed, of messages that are short
+group-most : (ids : Bool) (g : List Item) → WellPacked ids (group g) → All (λ i. i.len ≤ SLICE_SIZE) g → total (packed_len ids) g ≤ SLICE_SIZE + 16
+unfolding total All
+group-most ids g (inl h) a = omega arith
+group-most ids [] (inr h) a = omega arith
+group-most ids (x ∷ []) (inr h) a = let m = message-most ids x a.0 in omega arith
+group-most ids (x ∷ y ∷ g) (inr h) a = absurd (omega arith)
+
+pub short-packets : (ids : Bool) (is : List Item) → All (λ i. i.len ≤ SLICE_SIZE) is → All (λ p. (seq : ℕ) → pack_len ids seq p ≤ LONGEST) (pack ids is)
+unfolding pack All total pack_len
+short-packets ids is =
+    by-turns ids (λ sum g is ps. sum ≡ total (packed_len ids) g → WellPacked ids (group g) → All (λ i. i.len ≤ SLICE_SIZE) g → All (λ i. i.len ≤ SLICE_SIZE) is
+    → All (λ p. (seq : ℕ) → pack_len ids seq p ≤ LONGEST) ps)
+    (λ sum q w a b. tt)
+    (λ sum i is q w a b. ((λ seq. let m = group-most ids (i ∷ is) w a in let v = var-most seq in omega arith), tt))
+    (λ sum g x rest ps e r q w a b. ((λ seq. slice-most seq x b.0), r q w a b.1))
+    (λ sum g x rest ps e r q w a b. ((λ seq. let m = group-most ids g w a in let v = var-most seq in omega arith), r (omega arith) (inr (omega arith)) (b.0, tt) b.1))
+    (λ sum g x rest ps e h r q w a b. let s = total-snoc (packed_len ids) g x in r (omega arith) (inl (omega arith)) (all_snoc (λ i. i.len ≤ SLICE_SIZE) g x a b.0) b.1)
+    is 0 [] refl (inr (omega arith)) tt
+
+packets-most : (ids : Bool) (seq : ℕ) (ps : List Pack) → All (λ p. (seq : ℕ) → pack_len ids seq p ≤ LONGEST) ps → packets_len ids seq ps ≤ LONGEST * length ps
+unfolding packets_len All
+packets-most ids seq [] a = omega arith
+packets-most ids seq (p ∷ ps) a = let r = packets-most ids (seq + 1) ps a.1 in let m = a.0 seq in omega arith
+
+-- ---- what may go
 
 pub all_go : (ids : Bool) (l : Lent) (is : List Item) → All (Chosen l) is → All (PackGoes l) (pack ids is)
 unfolding pack All PackGoes
@@ -139,31 +141,9 @@ all_go ids l is =
     (λ sum a b. tt)
     (λ sum i is a b. (a, tt))
     (λ sum g x rest ps e r a b. (rw e at b.0, r a b.1))
-    (λ sum g x rest ps e k r a b. (a, r (rw e at b.0, tt) b.1))
+    (λ sum g x rest ps e r a b. (a, r (rw e at b.0, tt) b.1))
     (λ sum g x rest ps e h r a b. r (all_snoc (Sendable l.small) g x a (rw e at b.0)) b.1)
     is 0 [] tt
-
--- how long a packet is that is well packed, of what may go
-group-most : (ids : Bool) (store : List ℕ) (g : List Item) → (total (packed_len ids) g ≤ SLICE_SIZE) ⊎ (length g ≡ 1) → All (Sendable store) g → total (packed_len ids) g ≤ SLICE_SIZE + 16
-unfolding total All
-group-most ids store g (inl h) a = omega arith
-group-most ids store [] (inr h) a = absurd (omega arith)
-group-most ids store (x ∷ []) (inr h) a = let m = message-most ids x a.0.len in omega arith
-group-most ids store (x ∷ y ∷ g) (inr h) a = absurd (omega arith)
-
-pack-most : (l : Lent) (p : Pack) → WellPacked l.ids p → PackGoes l p → (seq : ℕ) → pack_len l.ids seq p ≤ LONGEST
-unfolding pack_len PackGoes
-pack-most l (group g) w a seq = let m = group-most l.ids l.small g (well-says l.ids g w).1 a in let v = var-most seq in omega arith
-pack-most l (single i) w a seq = slice-most seq i a.len
-
-pub short-packets : (l : Lent) (is : List Item) → All (Chosen l) is → All (λ p. (seq : ℕ) → pack_len l.ids seq p ≤ LONGEST) (pack l.ids is)
-short-packets l is a =
-    all_both (WellPacked l.ids) (PackGoes l) (λ p. (seq : ℕ) → pack_len l.ids seq p ≤ LONGEST) (pack-most l) (pack l.ids is) (well-packed l.ids is) (all_go l.ids l is a)
-
-packets-most : (ids : Bool) (seq : ℕ) (ps : List Pack) → All (λ p. (seq : ℕ) → pack_len ids seq p ≤ LONGEST) ps → packets_len ids seq ps ≤ LONGEST * length ps
-unfolding packets_len All
-packets-most ids seq [] a = omega arith
-packets-most ids seq (p ∷ ps) a = let r = packets-most ids (seq + 1) ps a.1 in let m = a.0 seq in omega arith
 
 -- what packing tells is judged as the definitions judge a round; where nothing is refused, the packets may be written
 module _ (l : Lent) (seq : ℕ) (t : List ℕ) (n : ℕ) (p : List ℕ) (r : Packed) (w : Packs l.ids seq t n p r) (c : All (Chosen l) (items_in t 0 n)) (out entries : ℕ) where
@@ -190,7 +170,7 @@ module _ (l : Lent) (seq : ℕ) (t : List ℕ) (n : ℕ) (p : List ℕ) (r : Pac
 pub round-most : (l : Lent) (seq : ℕ) (is : List Item) → All (Chosen l) is → length (end_to_end (packets_bytes l seq (pack l.ids is))) ≤ LONGEST * length (pack l.ids is)
 round-most l seq is a =
     rw (length-packets l seq (pack l.ids is) (all_go l.ids l is a))
-    (packets-most l.ids seq (pack l.ids is) (short-packets l is a))
+    (packets-most l.ids seq (pack l.ids is) (short-packets l.ids is (all_map (Chosen l) (λ i. i.len ≤ SLICE_SIZE) (λ i s. s.len) is a)))
 
 -- ---- the packets lie end to end, each where the table says
 
@@ -213,8 +193,7 @@ unfolding out_after
 rest-kept l seq ps out =
     drop-splice (length (end_to_end (packets_bytes l seq ps))) 0 (end_to_end (packets_bytes l seq ps)) out (omega arith)
 
--- ---- both sides of the line: at id 0 a message of 1,197 bytes fills a packet, and one of 1,198 passes it and is one packet all the same; without ids,
--- a byte more
+-- ---- both sides of the line: at id 0 a message of 1,197 bytes fills a packet, and one of 1,198 sends an empty packet first; without ids, a byte more
 
 abbrev pub message : ℕ → Item
 message len = record { num = 0; id = 0; index = 0; place = 0; len = len }
@@ -223,14 +202,14 @@ pub fills : pack true (message 1197 ∷ []) ≡ group (message 1197 ∷ []) ∷ 
 unfolding pack packed packed_len var_len
 fills = refl
 
-pub passes : pack true (message 1198 ∷ []) ≡ group (message 1198 ∷ []) ∷ []
+pub empty-first : pack true (message 1198 ∷ []) ≡ group [] ∷ group (message 1198 ∷ []) ∷ []
 unfolding pack packed packed_len var_len
-passes = refl
+empty-first = refl
 
 pub fills-unreliable : pack false (message 1198 ∷ []) ≡ group (message 1198 ∷ []) ∷ []
 unfolding pack packed packed_len var_len
 fills-unreliable = refl
 
-pub passes-unreliable : pack false (message 1199 ∷ []) ≡ group (message 1199 ∷ []) ∷ []
+pub empty-first-unreliable : pack false (message 1199 ∷ []) ≡ group [] ∷ group (message 1199 ∷ []) ∷ []
 unfolding pack packed packed_len var_len
-passes-unreliable = refl
+empty-first-unreliable = refl

@@ -4,37 +4,24 @@ use Prim.Native.Nat.{ℕ, zero, suc, ◌+◌, ◌*◌, ◌-◌, ◌≤◌, ◌<�
 use mathlib.Core.Path.{◌≡◌, refl, sym, ap, ◌∙◌}
 use mathlib.Core.Bool.{Bool, true, false}
 use mathlib.Core.List.{List, [], ◌∷◌, ◌++◌, append-nil, append_assoc}
-use mathlib.Core.Logic.{◌⊎◌, inl, inr}
 use native.Mathlib.Omega.{arith}
 use borrow.Author.Tests.{lt-ltb, le-ltb}
-use lib.Dec.{ltb}
 use lib.ListN.{length, length-append}
 use Rattle.words.specs.Sizes.{SLICE_SIZE, MAX_MESSAGES}
-use Rattle.words.specs.Choice.{pick}
 use Rattle.words.specs.Lists.{splice, total, All}
 use Rattle.words.proofs.Lists.{total-snoc, all_snoc}
 use Rattle.pack.specs.Pack.{Item, ITEM, item_at, items_in, is_small, Pack, group, single, packed_len, packed, pack}
 use Rattle.pack.specs.Rows.{Row, PACK, smalls, smalls_in, rows_in, pack_of, packs_in, Sound, pack_len, packets_len, Packs}
-use Rattle.pack.specs.Steps.{row_words, open_row, piece_row, opened, closed, begun, joined, Closes, pieced, PackedTo}
+use Rattle.pack.specs.Steps.{row_words, open_row, piece_row, opened, closed, begun, joined, pieced, PackedTo}
 use Rattle.pack.specs.declared.Packing.{Packing}
 use Rattle.pack.proofs.Tables.{items-then, smalls-join, smalls-pass, rows-put, packs-put, length-packs, packets-more}
 use Rattle.pack.proofs.Lengths.{var-most, message-most, slice-most}
-
--- a choice between the same
-pub pick_same : (t : Bool) {A : Type 0} (a : A) → pick t a a ≡ a
-pick_same true a = refl
-pick_same false a = refl
-
-none-total : (f : Item → ℕ) (g : List Item) → length g ≡ 0 → total f g ≡ 0
-unfolding total
-none-total f [] e = refl
-none-total f (x ∷ g) e = absurd (omega arith)
 
 smalls-none : (t : List ℕ) (i : ℕ) → smalls_in t i i ≡ []
 unfolding smalls_in smalls items_in
 smalls-none t i = let z : i - i ≡ 0 = omega arith in rw z
 
-pub positive : (n : ℕ) → (n ≡ 0 → ⊥) → 0 < n
+positive : (n : ℕ) → (n ≡ 0 → ⊥) → 0 < n
 positive zero h = absurd (h refl)
 positive (suc n) h = omega arith
 
@@ -87,14 +74,13 @@ module _ (ids : Bool) (sum : ℕ) (g : List Item) (x : Item) (rest : List Item) 
   unfolding packed
   packed-piece e = simp e
 
-  pub packed-close : is_small x ≡ true → SLICE_SIZE < sum + packed_len ids x → 0 < length g → packed ids sum g (x ∷ rest) ≡ group g ∷ packed ids (packed_len ids x) (x ∷ []) rest
+  pub packed-close : is_small x ≡ true → SLICE_SIZE < sum + packed_len ids x → packed ids sum g (x ∷ rest) ≡ group g ∷ packed ids (packed_len ids x) (x ∷ []) rest
   unfolding packed
-  packed-close e h k = simp (e, lt-ltb _ _ h, lt-ltb _ _ k)
+  packed-close e h = simp (e, lt-ltb _ _ h)
 
-  pub packed_join : is_small x ≡ true → (sum + packed_len ids x ≤ SLICE_SIZE) ⊎ (length g ≤ 0) → packed ids sum g (x ∷ rest) ≡ packed ids (sum + packed_len ids x) (g ++ (x ∷ [])) rest
+  pub packed_join : is_small x ≡ true → sum + packed_len ids x ≤ SLICE_SIZE → packed ids sum g (x ∷ rest) ≡ packed ids (sum + packed_len ids x) (g ++ (x ∷ [])) rest
   unfolding packed
-  packed_join e (inl h) = simp (e, le-ltb _ _ h)
-  packed_join e (inr h) = simp (e, le-ltb 0 (length g) h, pick_same (ltb SLICE_SIZE (sum + packed_len ids x)) false)
+  packed_join e h = simp (e, le-ltb _ _ h)
 
 pub last_none : (ids : Bool) (sum : ℕ) (g : List Item) → length g ≡ 0 → packed ids sum g [] ≡ []
 unfolding packed
@@ -115,7 +101,7 @@ module _ (ids : Bool) (seq : ℕ) (t : List ℕ) (i : ℕ) (p : Packing) (rows :
 
   module _ (short : (item_at t i).len ≤ SLICE_SIZE) (small : is_small (item_at t i) ≡ true) where
     -- a message that joins the open group
-    pub join-turn : {n : ℕ} → n ≡ packed_len ids (item_at t i) → (p.small_messages_bytes + n ≤ SLICE_SIZE) ⊎ (p.small_messages ≤ 0) → PackedTo ids seq t (i + 1) (joined n p) rows
+    pub join-turn : {n : ℕ} → n ≡ packed_len ids (item_at t i) → p.small_messages_bytes + n ≤ SLICE_SIZE → PackedTo ids seq t (i + 1) (joined n p) rows
     join-turn {n} e h =
         let o = smalls-join t p.first i w.first small in
         let most = message-most ids (item_at t i) short in
@@ -128,7 +114,7 @@ module _ (ids : Bool) (seq : ℕ) (t : List ℕ) (i : ℕ) (p : Packing) (rows :
           bytes = w.bytes;
           bounded = let q = w.bounded in omega arith;
           sound = w.sound;
-          goes_on = λ rest. rw (e, o) (goes rest (packed_join ids p.small_messages_bytes (smalls_in t p.first i) (item_at t i) rest small (rw (e, w.messages) at h)));
+          goes_on = λ rest. rw (e, o) (goes rest (packed_join ids p.small_messages_bytes (smalls_in t p.first i) (item_at t i) rest small (rw e at h)));
         }
 
   module _ (short : (item_at t i).len ≤ SLICE_SIZE) (h : PACK * (i + 1) ≤ length rows) (k : ITEM * (i + 1) ≤ length t) (m : i < MAX_MESSAGES) where
@@ -155,10 +141,10 @@ module _ (ids : Bool) (seq : ℕ) (t : List ℕ) (i : ℕ) (p : Packing) (rows :
         }
 
     -- a message that closes the open group, and opens the next
-    pub close-turn : {n : ℕ} → is_small (item_at t i) ≡ true → n ≡ packed_len ids (item_at t i) → SLICE_SIZE < p.small_messages_bytes + n → 0 < p.small_messages
+    pub close-turn : {n : ℕ} → is_small (item_at t i) ≡ true → n ≡ packed_len ids (item_at t i) → SLICE_SIZE < p.small_messages_bytes + n
         → PackedTo ids seq t (i + 1) (begun n (closed seq i p)) (splice (PACK * p.packets) (row_words (open_row p i)) rows)
     unfolding put pack_of pack_len total
-    close-turn {n} e en over some =
+    close-turn {n} e en over =
         let r = open_row p i in
         let o : smalls_in t i (i + 1) ≡ item_at t i ∷ [] = smalls-join t i i (omega arith) e ∙ ap (λ (l : List Item). l ++ (item_at t i ∷ [])) (smalls-none t i) in
         let most = message-most ids (item_at t i) short in
@@ -173,18 +159,8 @@ module _ (ids : Bool) (seq : ℕ) (t : List ℕ) (i : ℕ) (p : Packing) (rows :
           bounded = let q = w.bounded in omega arith;
           sound = put-sound ids seq t i p rows w r h (record { within = omega arith; piece = λ z. let n : ◌≡◌ {A = ℕ} 0 1 = cc in absurd (omega arith); counted = λ z. w.messages; few = let q = w.few in omega arith });
           goes_on = λ rest.
-              put-goes ids seq t i p rows w r h _ ∙ goes rest (packed-close ids p.small_messages_bytes (smalls_in t p.first i) (item_at t i) rest e (rw en at over) (rw w.messages at some) ∙ rw (en, o));
+              put-goes ids seq t i p rows w r h _ ∙ goes rest (packed-close ids p.small_messages_bytes (smalls_in t p.first i) (item_at t i) rest e (rw en at over) ∙ rw (en, o));
         }
-
-    -- a message that doesn't fit: the open group is closed, if it holds a message, and the message is the first of the next
-    pub over-turn : {n : ℕ} (q : Packing) (rows' : List ℕ) → is_small (item_at t i) ≡ true → n ≡ packed_len ids (item_at t i) → SLICE_SIZE < p.small_messages_bytes + n
-        → Closes seq i p rows q rows' → PackedTo ids seq t (i + 1) (begun n q) rows'
-    over-turn {n} q rows' e en over (inl (none-held, eq, er)) =
-        let b = w.sum ∙ none-total (packed_len ids) (smalls_in t p.first i) (sym w.messages ∙ none-held) in
-        let one : p.small_messages + 1 ≡ 1 = omega arith in
-        let size : p.small_messages_bytes + n ≡ n = omega arith in
-        rw (eq, er) (rw (one, size) at (join-turn short e en (inr (omega arith))))
-    over-turn q rows' e en over (inr (some, eq, er)) = rw (eq, er) (close-turn e en over some)
 
 -- ---- the end of a round
 
@@ -223,9 +199,3 @@ module _ (ids : Bool) (seq : ℕ) (t : List ℕ) (n : ℕ) (p : Packing) (rows :
         sound = put-sound ids seq t n p rows w r h (record { within = k; piece = λ z. let n : ◌≡◌ {A = ℕ} 0 1 = cc in absurd (omega arith); counted = λ z. w.messages; few = let q = w.few in omega arith });
         few = let k = w.packets in omega arith;
       }
-
-  -- either
-  pub ended : (q : Packing) (rows' : List ℕ) → PACK * (n + 1) ≤ length rows → ITEM * n ≤ length t → n ≤ MAX_MESSAGES → Closes seq n p rows q rows'
-      → Packs ids seq t n rows' (record { packets = q.packets; bytes = q.bytes })
-  ended q rows' h k m (inl (none-held, eq, er)) = rw (eq, er) (end_none none-held)
-  ended q rows' h k m (inr (some, eq, er)) = rw (eq, er) (end-some h k m (λ z. absurd (omega arith)))

@@ -1,5 +1,5 @@
 -- What the laws of packing and encoding speak of. Assumes nothing.
-use Rattle.std.specs.Prelude.{ℕ, ◌+◌, ◌≡◌, Bool, true, false, List, [], ◌∷◌, ◌++◌, length, take, drop, ltb, leb, eqb}
+use Rattle.std.specs.Prelude.{ℕ, ◌+◌, ◌≤◌, ◌≡◌, Bool, List, [], ◌∷◌, ◌++◌, ◌⊎◌, length, take, drop}
 use Rattle.words.specs.Sizes.{SLICE_SIZE}
 use Rattle.words.specs.Choice.{pick}
 use Rattle.words.specs.Lists.{total}
@@ -21,12 +21,9 @@ singles [] = []
 singles (group is ∷ ps) = singles ps
 singles (single i ∷ ps) = i ∷ singles ps
 
--- whether a packet of these small messages is as document 02, [4] and [8] want it: it isn't empty, and packs to at most 1,200 or holds one message
-abbrev pub well_packed : Bool → List Item → Bool
-well_packed ids is = pick (ltb 0 (length is)) (pick (leb (total (packed_len ids) is) SLICE_SIZE) true (eqb (length is) 1)) false
-
+-- a group's sizes come to at most 1,200, or it holds one message or none
 abbrev pub WellPacked : Bool → Pack → Type 0
-WellPacked ids (group is) = well_packed ids is ≡ true
+WellPacked ids (group is) = (total (packed_len ids) is ≤ SLICE_SIZE) ⊎ (length is ≤ 1)
 WellPacked ids (single i) = Unit
 
 -- no packet is longer: a piece with its type, its channel and five numbers

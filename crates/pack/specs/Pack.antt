@@ -1,6 +1,6 @@
--- Packing what a round sends. Document 01, "Reliable round" and "Unreliable", and document 02, [4]. `ids` tells a reliable round from an unreliable one.
+-- Packing what a round sends. Document 01, "Reliable round" and "Unreliable". `ids` tells a reliable round from an unreliable one.
 -- Assumes nothing.
-use Rattle.std.specs.Prelude.{ℕ, zero, suc, ◌+◌, ◌*◌, Bool, false, List, [], ◌∷◌, ◌++◌, length, get_or, ltb, eqb}
+use Rattle.std.specs.Prelude.{ℕ, zero, suc, ◌+◌, ◌*◌, Bool, List, [], ◌∷◌, ◌++◌, get_or, ltb, eqb}
 use Rattle.words.specs.Sizes.{SLICE_SIZE}
 use Rattle.words.specs.Choice.{pick}
 use Rattle.words.specs.Lists.{total}
@@ -54,17 +54,13 @@ abbrev pub last_of : List Item → List Pack
 last_of [] = []
 last_of (i ∷ is) = group (i ∷ is) ∷ []
 
--- the packet so far is closed before message i if the sum would pass 1,200 and it holds a message
-abbrev pub closes : Bool → ℕ → List Item → Item → Bool
-closes ids sum open-group i = pick (ltb SLICE_SIZE (sum + packed_len ids i)) (ltb 0 (length open-group)) false
-
--- from here on, with the small messages of the packet so far and the sum of their sizes: a packet that is closed is put out; a piece is put out
--- at once
+-- from here on, with the small messages of the packet so far and the sum of their sizes: if the sum would pass 1,200 the packet so far is
+-- closed, even if it holds no message, and put out; a piece is put out at once
 unfoldable pub packed : Bool → ℕ → List Item → List Item → List Pack
 packed ids sum open-group [] = last_of open-group
 packed ids sum open-group (i ∷ is) =
     pick (is_small i)
-    (pick (closes ids sum open-group i)
+    (pick (ltb SLICE_SIZE (sum + packed_len ids i))
     (group open-group ∷ packed ids (packed_len ids i) (i ∷ []) is)
     (packed ids (sum + packed_len ids i) (open-group ++ (i ∷ [])) is))
     (single i ∷ packed ids sum open-group is)

@@ -1,13 +1,13 @@
 -- The steps of packing and of encoding, for the contracts of private functions. Assumes nothing.
-use Rattle.std.specs.Prelude.{ℕ, ◌+◌, ◌*◌, ◌≤◌, ◌<◌, ◌≡◌, Bool, List, [], ◌∷◌, ◌++◌, map, ◌⊎◌, length, take, drop}
+use Rattle.std.specs.Prelude.{ℕ, ◌+◌, ◌*◌, ◌≤◌, ◌≡◌, Bool, List, [], ◌∷◌, ◌++◌, map, length, take, drop}
 use Rattle.words.specs.Sizes.{SLICE_SIZE}
-use Rattle.words.specs.Lists.{splice, total, All}
+use Rattle.words.specs.Lists.{total, All}
 use Rattle.packet_small.specs.Steps.{head_len}
 use Rattle.packet_small.specs.Write.{Said, id_said, messages_bytes}
 use Rattle.packet_slice.specs.Steps.{slice_len_of}
 use Rattle.pack.specs.Pack.{Item, items_in, packed_len, packed, pack}
 use Rattle.pack.specs.Encode.{Lent}
-use Rattle.pack.specs.Rows.{Row, PACK, rows_in, packs_in, smalls, smalls_in, Sound, slice_item, packets_len}
+use Rattle.pack.specs.Rows.{Row, rows_in, packs_in, smalls, smalls_in, Sound, slice_item, packets_len}
 use Rattle.pack.specs.declared.Packing.{Packing}
 
 -- ---- the words of an item and of a row
@@ -41,12 +41,6 @@ closed seq i p =
       small_messages = 0;
       small_messages_bytes = 0;
     }
-
--- what closing gives: nothing where the open group holds no message
-abbrev pub Closes : ℕ → ℕ → Packing → List ℕ → Packing → List ℕ → Type 0
-Closes seq i p rows r rows' =
-    ((p.small_messages ≡ 0) × (r ≡ p) × (rows' ≡ rows))
-    ⊎ ((0 < p.small_messages) × (r ≡ closed seq i p) × (rows' ≡ splice (PACK * p.packets) (row_words (open_row p i)) rows))
 
 -- a message of n bytes, the first of the group just opened
 abbrev pub begun : ℕ → Packing → Packing

@@ -10,16 +10,15 @@ ghost use Rattle.std.specs.Prelude.{◌≡◌, [], ◌∷◌, ◌+◌, ◌*◌, 
 ghost use Rattle.words.specs.Sizes.{LIMIT, SLICE_SIZE, PIECES, MAX_MESSAGES};
 ghost use Rattle.words.specs.Lists.{splice, total, All};
 ghost use Rattle.words.specs.Pieces.{pieces_of, piece_len_of};
-ghost use Rattle.octets.specs.Varint.{var_len};
 ghost use Rattle.packet_slice.specs.Slice.{slice_of};
 ghost use Rattle.pack.specs.Pack.{ITEM, item_at, items_in, packed_len, pack};
 ghost use Rattle.pack.specs.Encode.{pack_bytes, round_refusal, out_after, table_after};
 ghost use Rattle.pack.specs.Rows.{PACK, row_at, smalls, pack_of, packs_in, Sound, slice_item, Packs, Sendable, PackGoes, Chosen, Ready, round_number, verdict_of};
 ghost use Rattle.pack.specs.Round.{ITEMS, Gives};
-ghost use Rattle.pack.specs.Steps.{item_words, row_words, open_row, piece_row, closed, Closes, pieced, MOST, PackedTo, lent, items_bytes};
+ghost use Rattle.pack.specs.Steps.{item_words, row_words, open_row, piece_row, closed, pieced, MOST, PackedTo, lent, items_bytes};
 
 use packet_slice::Slice;
-use packet_small::{HEAD, Small};
+use packet_small::Small;
 use words::{LANES, LIMIT, MessageId, PIECES, Refusal, SLICE_SIZE, SLOTS, Sequence, SliceIndex};
 
 // Words of the items' table for each item.
@@ -32,10 +31,10 @@ pub const ITEMS: usize = SLOTS + LANES * PIECES;
 const PACK: usize = 4;
 
 // Words of the lent table for each packet: start and length.
-pub const ENTRY: usize = 2;
+const ENTRY: usize = 2;
 
-// A varint takes one byte below this.
-const ONE_BYTE: u64 = 1 << 6;
+// Bytes before the messages beside the sequence: type, channel and two-byte count.
+const HEAD: usize = 4;
 
 // A packed round: how many packets it has, and how long they are, encoded.
 #[derive(Drop)]
@@ -127,7 +126,7 @@ pub fn num_slices(len: usize) -> usize
 }
 
 // How long piece i of a message is.
-pub fn piece_len(len: usize, i: usize) -> usize
+pub fn slice_len(len: usize, i: usize) -> usize
     requires len_bound { len ≤ PIECES * SLICE_SIZE }
     requires i_bound { i * SLICE_SIZE ≤ len }
     ensures { result ≡ piece_len_of len i }
@@ -138,23 +137,12 @@ pub fn piece_len(len: usize, i: usize) -> usize
     SLICE_SIZE
 }
 
-// How many bytes say a small message's length. It is at most SLICE_SIZE, so one test tells.
-fn length_len(len: u64) -> usize
-    requires { len ≤ SLICE_SIZE }
-    ensures { (result ≡ var_len len) × (result ≤ 2) }
-{
-    if len < ONE_BYTE {
-        return 1;
-    }
-    2
-}
-
 // A small message's size for packing, which is its length in a packet.
 fn serialized_size(ids: bool, id: u64, len: u64) -> usize
     requires { len ≤ SLICE_SIZE }
     ensures { (result ≡ packed_len ids (record { num = 0; id = id; index = 0; place = 0; len = len })) × (result ≤ MOST) }
 {
-    let size = len as usize + length_len(len);
+    let size = len as usize + octets::form_len(len);
     if ids {
         return size + octets::form_len(id);
     }
@@ -196,19 +184,6 @@ fn put_group(packs: &mut [u64], i: usize, sequence: Sequence, mut p: Packing) ->
     p
 }
 
-// Closes the open group before item i, if it holds a message.
-fn close_group(packs: &mut [u64], i: usize, sequence: Sequence, p: Packing) -> Packing
-    requires packets_in_bounds { PACK * (p.packets + 1) ≤ length packs.old }
-    requires packets_bound { sequence.0 + p.packets < 2 * LIMIT }
-    requires small_messages_bytes_bound { p.bytes + p.small_messages_bytes < LIMIT }
-    ensures { Closes sequence.0 i p packs.old result packs.new }
-{
-    if p.small_messages == 0 {
-        return p;
-    }
-    put_group(packs, i, sequence, p)
-}
-
 // Puts out the piece at item i.
 fn put_piece(
     items: &[u64],
@@ -234,7 +209,7 @@ fn put_piece(
 }
 
 // Packs item i, those before it being packed. If the sum would pass SLICE_SIZE the group so far is
-// put out, if it holds a message; a piece is put out at once.
+// put out, even if it holds no message; a piece is put out at once.
 fn pack_item(
     items: &[u64],
     i: usize,
@@ -258,7 +233,7 @@ fn pack_item(
     let size = serialized_size(ids, items[j + 1], items[j + 4]);
     let bytes = p.small_messages_bytes;
     if SLICE_SIZE < bytes + size {
-        let mut q = close_group(packs, i, sequence, p);
+        let mut q = put_group(packs, i, sequence, p);
         q.small_messages = 1;
         q.small_messages_bytes = size;
         return q;
@@ -290,7 +265,13 @@ fn pack(items: &[u64], n: usize, ids: bool, packs: &mut [u64], sequence: Sequenc
         p = pack_item(items, i, ids, packs, sequence, p);
         i += 1;
     }
-    p = close_group(packs, n, sequence, p);
+    if p.small_messages == 0 {
+        return Packed {
+            packets: p.packets,
+            bytes: p.bytes,
+        };
+    }
+    p = put_group(packs, n, sequence, p);
     Packed {
         packets: p.packets,
         bytes: p.bytes,

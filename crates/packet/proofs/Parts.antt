@@ -1,20 +1,22 @@
 -- What writing a packet in two parts makes: all but the lower ranges of a packet of acknowledgements, and then those. Assumes nothing.
-use Prim.Native.Nat.{ℕ, zero, suc, ◌+◌, ◌-◌, ◌≤◌, ◌<◌}
+use Prim.Native.Nat.{ℕ, zero, suc, ◌-◌, ◌≤◌, ◌<◌}
 use mathlib.Core.Path.{◌≡◌, refl, sym, ap, ◌∙◌, subst}
 use mathlib.Core.Bool.{Bool, true, false}
-use mathlib.Core.List.{List, [], ◌∷◌, ◌++◌}
+use mathlib.Core.List.{List, [], ◌∷◌}
 use native.Mathlib.Omega.{arith}
 use native.Mathlib.Nat.{sub-zero}
 use borrow.Author.Tests.{leb-true, ltb-true}
 use lib.Dec.{leb, ltb}
-use lib.ListN.{length, set, take, drop, take-append-drop}
+use lib.ListN.{length, get_or, take}
+use lib.Seq.{length-take-le}
 use Rattle.words.specs.Choice.{pick}
 use Rattle.words.specs.Lists.{splice, reached}
 use Rattle.octets.specs.Writer.{put_of, left}
 use Rattle.octets.specs.declared.Put.{Put}
 use Rattle.packet_ack.specs.Ack.{RANGES}
 use Rattle.packet_ack.specs.Write.{lowers_bytes}
-use Rattle.packet_ack.specs.Steps.{below, falling_below, unjudged_in, judged_next, judged_in, to_judge, Writable, JudgedOf, FrontOf}
+use Rattle.packet_ack.specs.Steps.{filled_from, below, falling_below, unjudged_in, judged_next, judged_in, to_judge, Writable, JudgedOf, FrontOf}
+use Rattle.packet_ack.specs.declared.Pen.{Pen}
 use Rattle.packet_ack.specs.declared.Range.{Range}
 use Rattle.packet_ack.specs.declared.Judgement.{Judgement}
 use Rattle.packet_ack.specs.declared.Front.{Front}
@@ -22,11 +24,8 @@ use Rattle.packet_ack.specs.declared.Ack as code
 use Rattle.packet.specs.declared.Packet.{Packet}
 use Rattle.packet.specs.declared.Packet.TheVariants.{SmallReliable, SmallUnreliable, ReliableSlice, UnreliableSlice, Ack}
 use Rattle.packet.specs.Write.{encoded, bytes_of}
-use Rattle.packet.specs.Steps.{ranges_named_of, JudgedBy, JudgedAs, PutOf, lent_of, ReadGives}
-use Rattle.octets.specs.Reader.{Res, ok, fault}
-use Rattle.packet.specs.Packet as reader
-use Rattle.packet.specs.declared.Decoded.{Decoded}
-use Rattle.packet.specs.declared.DecodedTable.{DecodedTable}
+use Rattle.packet.specs.Steps.{ranges_named_of, JudgedBy, JudgedAs, PutOf, lent_of, FindGives, ReadGives}
+use Rattle.packet.specs.declared.Found.{Found}
 
 -- ---- a packet that is written whole, or refused
 
@@ -82,53 +81,44 @@ lent-within n = go (ltb n RANGES) refl
     go true e = omega (arith, ltb-true n RANGES e)
     go false e = omega arith
 
--- ---- the records that are lent of a longer table, put together with the others
+get_d_take : (t : List Range) (n i : ℕ) (d : Range) → i < n → get_or (take n t) i d ≡ get_or t i d
+get_d_take [] zero i d h = absurd (omega arith)
+get_d_take [] (suc n) i d h = refl
+get_d_take (x ∷ t) zero i d h = absurd (omega arith)
+get_d_take (x ∷ t) (suc n) zero d h = refl
+get_d_take (x ∷ t) (suc n) (suc i) d h = get_d_take t n i d (omega arith)
 
-take-set : (n i : ℕ) (t : List Range) (x : Range) → take n (set t i x) ≡ set (take n t) i x
-take-set zero i t x = refl
-take-set (suc n) i [] x = refl
-take-set (suc n) zero (y ∷ t) x = refl
-take-set (suc n) (suc i) (y ∷ t) x = ap (λ (l : List Range). y ∷ l) (take-set n i t x)
+pub below-take : (t : List Range) (n k : ℕ) → k ≤ n → below (take n t) k ≡ below t k
+unfolding below
+below-take t n zero h = refl
+below-take t n (suc k) h = let g = get_d_take t n k (record { start = 0; end = 0 }) (omega arith) in let r = below-take t n k (omega arith) in simp (g, r)
 
-drop-set : (n i : ℕ) (t : List Range) (x : Range) → i < n → drop n (set t i x) ≡ drop n t
-drop-set zero i t x h = absurd (omega arith)
-drop-set (suc n) i [] x h = refl
-drop-set (suc n) zero (y ∷ t) x h = refl
-drop-set (suc n) (suc i) (y ∷ t) x h = drop-set n i t x (omega arith)
+-- what writing from the first n records asks is what writing from all asks
+pub writable-all : (t : List Range) (n k : ℕ) (p : Pen) (m : ℕ) → n ≤ length t → Writable (take n t) k p m → Writable t k p m
+writable-all t n k p m h w =
+    let l : k ≤ n = omega (arith, w.named, length-take-le n t h) in
+    let b = below-take t n k l in
+    record { named = omega arith; falls = rw (← b) w.falls; limit = w.limit; room = rw (← b) w.room }
 
-splice_front : (i : ℕ) (xs t : List Range) (n : ℕ) → i + length xs ≤ n → splice i xs (take n t) ++ drop n t ≡ splice i xs t
-unfolding splice
-splice_front i [] t n h = take-append-drop n t
-splice_front i (x ∷ xs) t n h =
-    ap (λ (l : List Range). splice (suc i) xs l ++ drop n t) (sym (take-set n i t x))
-    ∙ ap (λ (l : List Range). splice (suc i) xs (take n (set t i x)) ++ l) (sym (drop-set n i t x (omega arith)))
-    ∙ splice_front (suc i) xs (set t i x) n (omega arith)
+module _ (p : Packet) (ms : List ℕ) (t : List Range) (src out : List ℕ) (n : ℕ) (h : n ≤ length t) where
+  pub judged-first : {c : ℕ} {j₀ j : Judgement} → c ≡ ranges_named_of p n → j₀ ≡ unjudged_in (length out) → j ≡ reached judged_next j₀ (below t c) → JudgedBy p (take n t) (length out) j
+  judged-first {c} {j₀} {j} s s' e =
+      let l = length-take-le n t h in
+      let i : c ≤ n = omega (arith, s, named-within p n) in
+      subst (JudgedBy p (take n t) (length out)) (ap (reached judged_next j₀) (below-take t n c i) ∙ sym e) (judged-by p (take n t) (length out) (s ∙ ap (ranges_named_of p) (sym l)) s')
 
-leaves-front : (r : Res reader.Packet) (m n : ℕ) (t : List Range) → reader.leaves reader.ranges_of (reader.judged r m n) (take n t) ++ drop n t ≡ reader.leaves reader.ranges_of (reader.judged r m n) t
-unfolding reader.judged
-leaves-front (fault e) m n t = take-append-drop n t
-leaves-front (ok p next) m n t = go p (reader.holds p m n) refl
-  where
-    go : (p : reader.Packet) (b : Bool) → reader.holds p m n ≡ b
-        → reader.leaves reader.ranges_of (pick b (ok p next) (fault 11)) (take n t) ++ drop n t ≡ reader.leaves reader.ranges_of (pick b (ok p next) (fault 11)) t
-    go p false e = take-append-drop n t
-    go (reader.small_reliable p) true e = take-append-drop n t
-    go (reader.small_unreliable p) true e = take-append-drop n t
-    go (reader.reliable_slice p) true e = take-append-drop n t
-    go (reader.unreliable_slice p) true e = take-append-drop n t
-    go (reader.ack p) true e = splice_front 0 p.ranges t n (let i : length p.ranges ≤ n = leb-true (length p.ranges) n e in omega arith)
+  pub judged-as : {c : ℕ} {j₀ j : Judgement} → c ≡ ranges_named_of p n → j₀ ≡ unjudged_in (length out) → j ≡ reached judged_next j₀ (below t c) → JudgedAs p n (length out) j
+  judged-as s s' e = record { table = take n t; holds = length-take-le n t h; judged = judged-first s s' e }
 
-pub read-gives : (bs ms : List ℕ) (rs : List Range) (n : ℕ) (ms' : List ℕ) (zs : List Range) (d : Decoded) (r : DecodedTable) → length (take n rs) ≡ n
-    → reader.DecodeGives bs ms (take n rs) ms' zs d → (r.answer ≡ d) × (r.ranges ≡ zs ++ drop n rs) → ReadGives bs ms rs n ms' r
-read-gives bs ms rs n ms' zs d r l g u =
-    record {
-      answer = ap reader.decoded_of u.0 ∙ rw l at g.answer;
-      messages = rw l at g.messages;
-      ranges = u.1 ∙ ap (λ (t : List Range). t ++ drop n rs) (rw l at g.ranges) ∙ leaves-front (reader.packet bs 0) (length ms) n rs;
-    }
+  pub all-wrote : {os ws : List ℕ} {f : Front} → PutOf p ms (take n t) src out os f → ws ≡ splice f.pen.at (lowers_bytes f.pen.above (below t f.left)) os
+      → ws ≡ left (put_of f.answer) 0 (bytes_of p ms (take n t) src) out
+  all-wrote {os} {f = f} g e =
+      let l : f.left ≤ n = omega (arith, g.writable.named, length-take-le n t h) in
+      e ∙ ap (λ (rs : List Range). splice f.pen.at (lowers_bytes f.pen.above rs) os) (sym (below-take t n f.left l)) ∙ g.wrote
 
-pub lent_reads : (bs ms : List ℕ) (rs : List Range) (room : ℕ) (ms' : List ℕ) (r : DecodedTable) {n : ℕ} → n ≡ lent_of room → ReadGives bs ms rs n ms' r → ReadGives bs ms rs (lent_of room) ms' r
-lent_reads bs ms rs room ms' r e g = subst (λ (n : ℕ). ReadGives bs ms rs n ms' r) e g
+pub read-gives : (bs ms : List ℕ) (rs : List Range) (n room : ℕ) (ms' : List ℕ) (f : Found) {t : List Range} → n ≡ lent_of room → FindGives bs ms n ms' f → t ≡ filled_from f.count bs f.top rs
+    → ReadGives bs ms rs (lent_of room) ms' (record { answer = f.answer; ranges = t })
+read-gives bs ms rs n room ms' f e g w = rw (← e) (record { answer = g.answer; messages = g.messages; ranges = w ∙ g.fills rs })
 
 pub lent_gives : (p : Packet) (ms : List ℕ) (t : List Range) (src out : List ℕ) (held : ℕ) (r : Put) {n : ℕ} {o : List ℕ} → n ≡ lent_of held
     → put_of r ≡ encoded p ms (take n t) src (length out) → o ≡ left (put_of r) 0 (bytes_of p ms (take n t) src) out

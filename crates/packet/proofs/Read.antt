@@ -4,13 +4,11 @@ use mathlib.Core.Path.{◌≡◌, refl, sym, ap, ◌∙◌}
 use mathlib.Core.Bool.{Bool, true, false}
 use mathlib.Core.List.{List}
 use native.Mathlib.Omega.{arith}
-use borrow.Author.Tests.{lt-ltb, ltb-true, ne_eqb}
-use lib.Dec.{ltb, leb}
+use borrow.Author.Tests.{lt-ltb, le-ltb, ne_eqb}
+use lib.Dec.{leb}
 use lib.ListN.{length, get_or}
 use Rattle.words.specs.Choice.{pick}
-use Rattle.octets.specs.Reader.{Res, ok, fault, num_of, byte}
-use Rattle.octets.specs.declared.Got.{Got}
-use Rattle.octets.specs.declared.Got.TheVariants as got
+use Rattle.octets.specs.Reader.{Res, ok, fault, byte}
 use Rattle.packet_small.specs.Small as s
 use Rattle.packet_small.specs.Write as sw
 use Rattle.packet_small.specs.declared.SmallRead.{SmallRead}
@@ -137,15 +135,6 @@ ack-rest (ok p next) m n t = kept messages_of (ack p) next m n t refl
 
 -- ---- the whole, by its type byte
 
--- what is told of a byte that is there
-pub typed : (bs : List ℕ) {r : Got} {k next : ℕ} → num_of r ≡ byte bs 0 → r ≡ got.Value k next → (1 ≤ length bs) × (get_or bs 0 0 ≡ k)
-unfolding byte
-typed bs {r} {k} {next} e m = go (ltb 0 (length bs)) refl (sym (ap num_of m) ∙ e)
-  where
-    go : (b : Bool) → ltb 0 (length bs) ≡ b → ok k next ≡ pick b (ok (get_or bs 0 0) 1) (fault 1) → (1 ≤ length bs) × (get_or bs 0 0 ≡ k)
-    go true h o = (ltb-true 0 (length bs) h, cc)
-    go false h o = absurd (let z : ◌≡◌ {A = ℕ} 0 1 = cc in omega arith)
-
 module _ (bs : List ℕ) (h : 1 ≤ length bs) where
   pub packet-is : packet bs 0 ≡ body (get_or bs 0 0) bs 1
   unfolding packet byte
@@ -156,7 +145,7 @@ module _ (bs : List ℕ) (h : 1 ≤ length bs) where
   small_is true e = packet-is ∙ simp e
   small_is false e = packet-is ∙ simp e
 
-  pub slice_is : (reliable : Bool) → get_or bs 0 0 ≡ lw.type_byte_of reliable → packet bs 0 ≡ mapped (slice_kind reliable) (l.slice bs 1)
+  pub slice_is : (reliable : Bool) → get_or bs 0 0 ≡ lw.type_byte_of reliable → packet bs 0 ≡ mapped (slice_kind reliable) (l.slice reliable bs 1)
   unfolding body
   slice_is true e = packet-is ∙ simp e
   slice_is false e = packet-is ∙ simp e
@@ -184,9 +173,9 @@ module _ (bs ms : List ℕ) (n : ℕ) where
   by-none r e u a m g = by_result r e (ap decoded_of u.0 ∙ a) m (omega (arith, u.1)) (λ t. rw u.1 (g t))
 
   -- no type byte
-  pub no-type : {r : Got} {f : Found} {d : Decoded} → num_of r ≡ byte bs 0 → r ≡ got.Short → decoded_of d ≡ fault 1 → (f.answer ≡ d) × (f.count ≡ 0) → FindGives bs ms n ms f
-  unfolding packet judged
-  no-type b m e u = by-none (fault 1) (simp (← b, m)) u e refl (λ t. refl)
+  pub no-type : {f : Found} {d : Decoded} → length bs < 1 → decoded_of d ≡ fault 1 → (f.answer ≡ d) × (f.count ≡ 0) → FindGives bs ms n ms f
+  unfolding packet byte judged
+  no-type h e u = by-none (fault 1) (simp (le-ltb 0 (length bs) (omega arith))) u e refl (λ t. refl)
 
   module _ (h : 1 ≤ length bs) where
     pub as-small : (ids : Bool) → get_or bs 0 0 ≡ sw.type_byte_of ids → (x : SmallRead) {ms' : List ℕ} {d : Decoded} {f : Found}
@@ -199,12 +188,12 @@ module _ (bs ms : List ℕ) (n : ℕ) where
         (small-rest ids (s.small ids bs 1) (length ms) n)
 
     pub as-slice : (reliable : Bool) → get_or bs 0 0 ≡ lw.type_byte_of reliable → (x : SliceRead) {d : Decoded} {f : Found}
-        → l.read_of x ≡ l.slice bs 1 → decoded_of d ≡ decoded_slice_of reliable (l.read_of x) → (f.answer ≡ d) × (f.count ≡ 0) → FindGives bs ms n ms f
+        → l.read_of x ≡ l.slice reliable bs 1 → decoded_of d ≡ decoded_slice_of reliable (l.read_of x) → (f.answer ≡ d) × (f.count ≡ 0) → FindGives bs ms n ms f
     as-slice reliable e x p q u =
-        by-none (mapped (slice_kind reliable) (l.slice bs 1)) (slice_is bs h reliable e) u
-        (q ∙ ap (decoded_slice_of reliable) p ∙ slice-told reliable (l.slice bs 1) (length ms) n)
-        (slice-rest messages_of messages-rest reliable (l.slice bs 1) (length ms) n ms)
-        (slice-rest ranges_of ranges-rest reliable (l.slice bs 1) (length ms) n)
+        by-none (mapped (slice_kind reliable) (l.slice reliable bs 1)) (slice_is bs h reliable e) u
+        (q ∙ ap (decoded_slice_of reliable) p ∙ slice-told reliable (l.slice reliable bs 1) (length ms) n)
+        (slice-rest messages_of messages-rest reliable (l.slice reliable bs 1) (length ms) n ms)
+        (slice-rest ranges_of ranges-rest reliable (l.slice reliable bs 1) (length ms) n)
 
     pub as-ack : get_or bs 0 0 ≡ aw.type_byte_of → (x : found.Found) {f : Found} → steps.FindGives bs 1 n x
         → (decoded_of f.answer ≡ decoded_ack_of (a.read_of x.answer)) × (f.top ≡ x.top) × (f.count ≡ x.count) → FindGives bs ms n ms f

@@ -29,6 +29,7 @@ use Rattle.packet_slice.specs.Write as lw
 use Rattle.packet_slice.specs.Layout.{SliceSpelt}
 use Rattle.packet_slice.specs.Layout as layout
 use Rattle.packet_slice.proofs.Judge.{accepted}
+use Rattle.packet_slice.proofs.Written.{sayable}
 use Rattle.packet_slice.proofs.Theorems as slice
 use Rattle.packet_ack.specs.Ack as a
 use Rattle.packet_ack.specs.declared.Range.{Range}
@@ -44,7 +45,7 @@ use Rattle.packet.specs.declared.Decoded.{Decoded}
 use Rattle.packet.specs.declared.Decoded.TheVariants as decoded
 use Rattle.packet.specs.declared.Packet.TheVariants as kind
 use Rattle.packet.specs.Write.{encoded, bytes_of}
-use Rattle.packet.specs.Layout.{Said, Spelt, said_in, said_by, ByteChannel}
+use Rattle.packet.specs.Layout.{Said, Spelt, said_in, said_by, AllowedSlice, Allowed, ByteChannel}
 use Rattle.packet.proofs.Read.{small_kind, slice_kind, packet-is}
 
 -- ---- the reader accepts exactly the spellings
@@ -68,9 +69,9 @@ module _ (bs : List ℕ) (w : Bytes bs) (h : 1 ≤ length bs) {p : Packet} {used
       subst (Sound bs used) m.2 (f m.0 (small.sound w (record { packet-read = m.0; type-is = sym (byte-there bs 0 h (sym t)); rest-is = m.1; says = refl })))
 
   slice-sound : (reliable : Bool) → ((v : l.Slice) → SliceSpelt reliable (lw.slice_said bs v) (take used bs) × (used ≤ length bs) → Sound bs used (slice_kind reliable v))
-      → get_or bs 0 0 ≡ lw.type_byte_of reliable → mapped (slice_kind reliable) (l.slice bs 1) ≡ ok p used → Sound bs used p
+      → get_or bs 0 0 ≡ lw.type_byte_of reliable → mapped (slice_kind reliable) (l.slice reliable bs 1) ≡ ok p used → Sound bs used p
   slice-sound reliable f t e =
-      let m = from-mapped (slice_kind reliable) (l.slice bs 1) e in
+      let m = from-mapped (slice_kind reliable) (l.slice reliable bs 1) e in
       subst (Sound bs used) m.2 (f m.0 (slice.sound reliable bs w t m.1))
 
   ack-sound : get_or bs 0 0 ≡ aw.type_byte_of → mapped ack (a.ack bs 1) ≡ ok p used → Sound bs used p
@@ -114,7 +115,7 @@ pub record Accepted (w : Said) (bs q : List ℕ) : Type 0 where
   pub says : said_in (bs ++ q) packet-read ≡ w
 
 slice-type : {reliable : Bool} {w : lw.SliceSaid} {bs : List ℕ} → SliceSpelt reliable w bs → (q : List ℕ) → byte (bs ++ q) 0 ≡ ok (lw.type_byte_of reliable) 1
-slice-type (layout.packet v c i x n r y) q = sym (byte-there _ 0 (omega arith) refl)
+slice-type (layout.packet v c i x n some few r y) q = sym (byte-there _ 0 (omega arith) refl)
 
 ack-type : {w : a.Ack} {bs : List ℕ} → AckSpelt w bs → (q : List ℕ) → byte (bs ++ q) 0 ≡ ok aw.type_byte_of 1
 ack-type (alayout.packet v z l s k r) q = sym (byte-there _ 0 (omega arith) refl)
@@ -162,22 +163,24 @@ module _ (ms : List ℕ) (rs : List Range) (src : List ℕ) (n : ℕ) {len : ℕ
       let x = accepts ids seq channel ms k src 0 n e in
       (small.written-spelt ids seq channel _ x.sequence c x.count x.messages, omega (arith, x.end))
 
-  slice_written : (reliable : Bool) (p : l.Slice) → p.channel < 256 → lw.put_slice_of reliable p src 0 n ≡ done len
+  slice_written : (reliable : Bool) (p : l.Slice) → p.channel < 256 → AllowedSlice reliable (lw.slice_said src p) → lw.put_slice_of reliable p src 0 n ≡ done len
       → SliceSpelt reliable (lw.slice_said src p) (lw.slice_bytes reliable (lw.slice_said src p)) × (len ≡ length (lw.slice_bytes reliable (lw.slice_said src p)))
-  slice_written reliable p c e = (slice.put-spelt reliable p src 0 n c e, omega (arith, (accepted reliable p src 0 n e).1))
+  slice_written reliable p c a e =
+      let x = accepted reliable p src 0 n e in
+      (slice.written reliable (lw.slice_said src p) (sayable p src c x.0) (record { some = (a).0; few = (a).1; payload = (a).2 }), omega (arith, x.1))
 
-  pub written : (p : code.Packet) → ByteChannel (said_by p ms rs src) → encoded p ms rs src n ≡ done len → Written p ms rs src len
+  pub written : (p : code.Packet) → ByteChannel (said_by p ms rs src) → Allowed (said_by p ms rs src) → encoded p ms rs src n ≡ done len → Written p ms rs src len
   unfolding encoded bytes_of
-  written (kind.SmallReliable p) c e = small-written true p.sequence.0 p.channel_id p.count c e
-  written (kind.SmallUnreliable p) c e = small-written false p.sequence.0 p.channel_id p.count c e
-  written (kind.ReliableSlice p) c e = slice_written true (l.slice_of p) c e
-  written (kind.UnreliableSlice p) c e = slice_written false (l.slice_of p) c e
-  written (kind.Ack p) c e = ack-written p.sequence.0 p.count e
+  written (kind.SmallReliable p) c a e = small-written true p.sequence.0 p.channel_id p.count c e
+  written (kind.SmallUnreliable p) c a e = small-written false p.sequence.0 p.channel_id p.count c e
+  written (kind.ReliableSlice p) c a e = slice_written true (l.slice_of p) c a e
+  written (kind.UnreliableSlice p) c a e = slice_written false (l.slice_of p) c a e
+  written (kind.Ack p) c a e = ack-written p.sequence.0 p.count e
 
   -- so the same packet is read back, with anything after it, and as many bytes are used as were written
-  pub read_back : (p : code.Packet) → ByteChannel (said_by p ms rs src) → encoded p ms rs src n ≡ done len → (q : List ℕ)
+  pub read_back : (p : code.Packet) → ByteChannel (said_by p ms rs src) → Allowed (said_by p ms rs src) → encoded p ms rs src n ≡ done len → (q : List ℕ)
       → Accepted (said_by p ms rs src) (bytes_of p ms rs src) q
-  read_back p c e q = complete (said_by p ms rs src) (bytes_of p ms rs src) q (written p c e).0
+  read_back p c a e q = complete (said_by p ms rs src) (bytes_of p ms rs src) q (written p c a e).0
 
 -- ---- one outcome only
 

@@ -1,11 +1,12 @@
--- The layouts of the five kinds as one relation: which bytes spell which packet that is allowed. Assumes nothing.
-use Rattle.std.specs.Prelude.{ℕ, ◌<◌, true, false, List, map}
+-- The layouts of the five kinds as one relation: which bytes spell which packet that document 01 allows. Assumes nothing.
+use Rattle.std.specs.Prelude.{ℕ, ◌≤◌, ◌<◌, Bool, true, false, List, map, length}
+use Rattle.words.specs.Sizes.{MAX_NUM_SLICES}
 use Rattle.packet_small.specs.Write as s
 use Rattle.packet_small.specs.Write.{said_of}
 use Rattle.packet_small.specs.Layout.{SmallSaid, SmallSpelt, small_said}
 use Rattle.packet_slice.specs.Write.{SliceSaid, slice_said}
 use Rattle.packet_slice.specs.Slice.{slice_of}
-use Rattle.packet_slice.specs.Layout.{SliceSpelt}
+use Rattle.packet_slice.specs.Layout.{SliceSpelt, Payload}
 use Rattle.packet_ack.specs.Ack as a
 use Rattle.packet_ack.specs.declared.Range.{Range}
 use Rattle.packet_ack.specs.Write as aw
@@ -44,6 +45,17 @@ said_by (kind.SmallUnreliable p) ms rs src =
 said_by (kind.ReliableSlice p) ms rs src = reliable_slice (slice_said src (slice_of p))
 said_by (kind.UnreliableSlice p) ms rs src = unreliable_slice (slice_said src (slice_of p))
 said_by (kind.Ack p) ms rs src = ack (record { sequence = p.sequence.0; ranges = aw.listed rs 0 p.count })
+
+-- what document 01 lets the reader take of what the writer may write: of a piece, 1 to 1,000,000 slices, and of type 2 a payload of 1 to 1,200
+abbrev pub AllowedSlice : Bool → SliceSaid → Type 0
+AllowedSlice reliable p = (1 ≤ p.num-slices) × (p.num-slices ≤ MAX_NUM_SLICES) × Payload reliable (length p.bytes)
+
+abbrev pub Allowed : Said → Type 0
+Allowed (small_reliable p) = Unit
+Allowed (small_unreliable p) = Unit
+Allowed (reliable_slice p) = AllowedSlice true p
+Allowed (unreliable_slice p) = AllowedSlice false p
+Allowed (ack p) = Unit
 
 -- a channel is a byte
 abbrev pub ByteChannel : Said → Type 0

@@ -39,8 +39,8 @@ unfoldable pub body : ℕ → Reader Packet
 body t =
     pick (eqb t 0) (kindly small_reliable (s.small true))
     (pick (eqb t 1) (kindly small_unreliable (s.small false))
-    (pick (eqb t 2) (kindly reliable_slice l.slice)
-    (pick (eqb t 3) (kindly unreliable_slice l.slice)
+    (pick (eqb t 2) (kindly reliable_slice (l.slice true))
+    (pick (eqb t 3) (kindly unreliable_slice (l.slice false))
     (pick (eqb t 4) (kindly ack a.ack)
     (λ bs at. fault 6)))))
 
@@ -60,7 +60,7 @@ holds (reliable_slice p) m n = true
 holds (unreliable_slice p) m n = true
 holds (ack p) m n = leb (length p.ranges) n
 
--- a good packet with more entries than its lent table: 11, after all that the layouts refuse
+-- a good packet with more entries than its lent table: 11, after 1 to 6
 unfoldable pub judged : Res Packet → ℕ → ℕ → Res Packet
 judged (ok p next) m n = pick (holds p m n) (ok p next) (fault 11)
 judged (fault e) m n = fault e

@@ -1,8 +1,9 @@
 -- The marked cases of document 01 as one table, and one fact over all its rows. Assumes nothing.
-use Rattle.std.specs.Prelude.{ℕ, zero, suc, ◌+◌, ◌*◌, ◌≡◌, refl, Bool, true, false, not, List, [], ◌∷◌, ◌++◌, map, reverse, eqb}
+use Rattle.std.specs.Prelude.{ℕ, zero, suc, ◌+◌, ◌*◌, ◌≡◌, refl, Bool, true, false, not, List, [], ◌∷◌, ◌++◌, map, reverse, eqb, leb, length, take, drop, replicate}
 use Rattle.words.specs.Choice.{pick, refusal}
 use Rattle.words.specs.Lists.{all}
-use Rattle.words.specs.Pieces.{is_small, pieces_of, piece_len_of}
+use Rattle.words.specs.Sizes.{SLICE_SIZE}
+use Rattle.words.specs.Pieces.{pieces_of, piece_of}
 use Rattle.octets.specs.Reader.{Res, ok, fault, byte, pair, bytes, need}
 use Rattle.octets.specs.Varint.{var, more, form_len_of, run, var_bytes, tagged, low_bytes, var_len, run_bytes}
 use Rattle.packet_small.specs.Small as s
@@ -44,7 +45,7 @@ up_to (suc n) = up_to n ++ n ∷ []
 
 -- how a message of n bytes goes: 0 and its length if it is small, else 1 and the lengths of its pieces
 abbrev pub goes : ℕ → List ℕ
-goes n = pick (is_small n) (0 ∷ n ∷ []) (1 ∷ map (piece_len_of n) (up_to (pieces_of n)))
+goes n = pick (leb n SLICE_SIZE) (0 ∷ n ∷ []) (1 ∷ map (λ i. length (piece_of (replicate n 0) i)) (up_to (pieces_of n)))
 
 pub record Row : Type 0 where
   pub got : List ℕ

@@ -3,17 +3,16 @@
 // A packet's messages and ranges stand in tables that the caller lends: three words for a message
 // (id, place, length; the id is 0 where the kind has none), and records of ranges. Places are those
 // of the input for the reader, and those of the store for the writer.
-ghost use Rattle.std.specs.Prelude.{◌≡◌, ◌≤◌, length, take};
+ghost use Rattle.std.specs.Prelude.{◌≡◌, length, take};
 ghost use Rattle.octets.specs.Writer.{put_of, left};
 ghost use Rattle.packet_small.specs.Small as s;
 ghost use Rattle.packet_slice.specs.Slice as l;
 ghost use Rattle.packet_ack.specs.Ack as a;
-ghost use Rattle.packet_ack.specs.Ack.{RANGES};
 ghost use Rattle.packet.specs.Packet.{decoded_of, DecodeGives, decoded_small_of, decoded_slice_of, decoded_ack_of};
 ghost use Rattle.packet.specs.Write.{encoded, bytes_of};
 ghost use Rattle.packet.specs.Steps.{FindGives, ranges_named_of, JudgedAs, PutGives, lent_of, ReadGives};
 
-use octets::{Got, Put};
+use octets::Put;
 use packet_ack::{AckRead, Front, Judgement, Pen, RANGES, Range, Spot};
 use packet_slice::SliceRead;
 use packet_small::SmallRead;
@@ -120,14 +119,15 @@ fn no_ranges(answer: Decoded) -> Found
 fn find(bytes: &[u8], messages: &mut [u64], room: usize) -> Found
     ensures { FindGives bytes.now messages.old room messages.new result }
 {
-    let Got::Value(kind, _) = octets::get_u8(bytes, 0) else {
+    if bytes.len() < 1 {
         return no_ranges(Decoded::Refused(Refusal::BufferTooShort));
-    };
+    }
+    let kind = bytes[0];
     match kind {
         0 => no_ranges(decoded_small(packet_small::read_small(bytes, 1, true, messages), true)),
         1 => no_ranges(decoded_small(packet_small::read_small(bytes, 1, false, messages), false)),
-        2 => no_ranges(decoded_slice(packet_slice::read_slice(bytes, 1), true)),
-        3 => no_ranges(decoded_slice(packet_slice::read_slice(bytes, 1), false)),
+        2 => no_ranges(decoded_slice(packet_slice::read_slice(bytes, 1, true), true)),
+        3 => no_ranges(decoded_slice(packet_slice::read_slice(bytes, 1, false), false)),
         4 => decoded_ack(packet_ack::find_ack(bytes, 1, room)),
         _ => no_ranges(Decoded::Refused(Refusal::InvalidPacketType)),
     }
@@ -228,41 +228,8 @@ fn lent(n: usize) -> usize
     RANGES
 }
 
-// What was read, beside its table.
-fn beside(answer: Decoded, ranges: [Range; RANGES]) -> DecodedTable
-    ensures { (result.answer ≡ answer) × (result.ranges ≡ ranges) }
-{
-    DecodedTable { answer, ranges }
-}
-
-// Reads into the first n records of a table by value, which it lends.
-fn read_into(bytes: &[u8], messages: &mut [u64], table: [Range; RANGES], n: usize) -> DecodedTable
-    requires { n ≤ RANGES }
-    ensures { ReadGives bytes.now messages.old table n messages.new result }
-{
-    let mut t = table;
-    let answer = from_bytes(bytes, messages, &mut t[..n]);
-    beside(answer, t)
-}
-
-// Writes with ranges from the first n records of a table by value, which it lends.
-fn write_from(
-    out: &mut [u8],
-    packet: Packet,
-    messages: &[u64],
-    table: [Range; RANGES],
-    n: usize,
-    store: &[u8],
-) -> Put
-    requires { n ≤ RANGES }
-    ensures { (put_of result ≡ encoded packet messages.now (take n table) store.now (length out.old))
-        × (out.new ≡ left (put_of result) 0 (bytes_of packet messages.now (take n table) store.now) out.old) }
-{
-    to_bytes(out, packet, messages, &table[..n], store)
-}
-
-// Reads as `from_bytes` does, into the first records of a table of ranges by value: of so many, or of all 64. So a good
-// packet of more than 64 ranges is refused (11), whatever the room. Whoever holds no slice of ranges needs no walk by hand.
+// Reads as `from_bytes` does, into the first records of a table of ranges by value: of so many, or of all. Whoever
+// holds no slice of ranges needs no walk by hand.
 pub fn decode(
     bytes: &[u8],
     messages: &mut [u64],
@@ -271,11 +238,18 @@ pub fn decode(
 ) -> DecodedTable
     ensures { ReadGives bytes.now messages.old ranges (lent_of room) messages.new result }
 {
-    read_into(bytes, messages, ranges, lent(room))
+    let f = find(bytes, messages, lent(room));
+    let top = f.top;
+    let count = f.count;
+    let answer = f.answer;
+    let table = packet_ack::fill_table(ranges, bytes, top, count);
+    DecodedTable {
+        answer,
+        ranges: table,
+    }
 }
 
-// Writes as `to_bytes` does, with ranges from the first records of a table by value: of so many, or of all 64. So a
-// packet that counts more than 64 ranges is refused (10), whatever is held.
+// Writes as `to_bytes` does, with ranges from the first records of a table by value: of so many, or of all.
 pub fn encode(
     out: &mut [u8],
     packet: Packet,
@@ -287,5 +261,14 @@ pub fn encode(
     ensures { (put_of result ≡ encoded packet messages.now (take (lent_of held) ranges) store.now (length out.old))
         × (out.new ≡ left (put_of result) 0 (bytes_of packet messages.now (take (lent_of held) ranges) store.now) out.old) }
 {
-    write_from(out, packet, messages, ranges, lent(held), store)
+    let n = lent(held);
+    let count = ranges_named(packet, n);
+    let from = packet_ack::unjudged(out.len());
+    let j = packet_ack::judge_table(ranges, count, from);
+    let f = put(out, packet, messages, store, n, j);
+    let rest = f.left;
+    let pen = f.pen;
+    let answer = f.answer;
+    packet_ack::write_table(out, ranges, rest, pen);
+    answer
 }

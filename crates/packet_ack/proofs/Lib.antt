@@ -1,6 +1,7 @@
 pub mod Bound
 pub mod Read
 pub mod Again
+pub mod Arrays
 pub mod Counted
 pub mod Fill
 pub mod Decode

@@ -10,7 +10,7 @@ ghost use Rattle.words.specs.Refusal.{number_of};
 ghost use Rattle.octets.specs.Reader.{fault};
 ghost use Rattle.octets.specs.Writer.{put_of, refused};
 ghost use Rattle.octets.specs.Varint.{var_len};
-ghost use Rattle.packet_ack.specs.Ack.{lower, lowers, read_of};
+ghost use Rattle.packet_ack.specs.Ack.{RANGES, lower, lowers, read_of};
 ghost use Rattle.packet_ack.specs.Write.{sayable, lowers_bytes};
 ghost use Rattle.packet_ack.specs.Steps.{range, lower_of, highest, highest_of, ended, walk_of, lower_spot_of, filled_from, FindGives};
 ghost use Rattle.packet_ack.specs.Steps.{unjudged_in, begun, stepped, judged_next, below, start_bytes, range_len_of, range_bytes, front_len, front_bytes, gap_below, pen_below, Writable, JudgedOf, FrontGives};
@@ -201,6 +201,16 @@ pub fn fill_ranges(ranges: &mut [Range], s: &[u8], top: Spot, n: usize)
     }
 }
 
+// The same of a table by value: whoever has one needs no walk by hand.
+pub fn fill_table(table: [Range; RANGES], s: &[u8], top: Spot, n: usize) -> [Range; RANGES]
+    requires { n ≤ RANGES }
+    ensures { result ≡ filled_from n s.now top table }
+{
+    let mut t = table;
+    fill_ranges(&mut t, s, top, n);
+    t
+}
+
 // What is found where a packet is refused: no record is to be filled.
 fn no_ranges(e: Refusal) -> Found
     ensures { (read_of result.answer ≡ fault (number_of e)) × (result.count ≡ 0) }
@@ -348,6 +358,14 @@ pub fn judge_ranges(ranges: &[Range], n: usize, from: Judgement) -> Judgement
     j
 }
 
+// The same of a table by value.
+pub fn judge_table(table: [Range; RANGES], n: usize, from: Judgement) -> Judgement
+    requires { n ≤ RANGES }
+    ensures { result ≡ reached judged_next from (below table n) }
+{
+    judge_ranges(&table, n, from)
+}
+
 // Writes the type byte and the sequence, for which there is room, and answers the place after them.
 fn write_start(out: &mut [u8], at: usize, seq: u64) -> usize
     requires { (seq < LIMIT) × (at + (1 + var_len seq) ≤ length out.old) }
@@ -404,6 +422,14 @@ pub fn write_ranges(out: &mut [u8], ranges: &[Range], n: usize, pen: Pen)
         left -= 1;
         p = write_lower(out, p, ranges[left]);
     }
+}
+
+// The same of a table by value.
+pub fn write_table(out: &mut [u8], table: [Range; RANGES], n: usize, pen: Pen)
+    requires { Writable table n pen (length out.old) }
+    ensures { out.new ≡ splice pen.at (lowers_bytes pen.above (below table n)) out.old }
+{
+    write_ranges(out, &table, n, pen);
 }
 
 // What a refusal leaves to be written: nothing.

@@ -1,4 +1,3 @@
-pub mod Allowed
 pub mod Read
 pub mod Wrote
 pub mod Judge

@@ -1,11 +1,13 @@
 -- `front`, `label` and `slice` at each of their cases, in the terms in which code meets them. Assumes nothing.
 use Prim.Native.Nat.{ℕ, ◌+◌, ◌≤◌, ◌<◌}
 use mathlib.Core.Path.{◌≡◌, refl, sym, ap, ◌∙◌}
+use mathlib.Core.Bool.{Bool, true, false}
 use mathlib.Core.List.{List}
-use borrow.Author.Tests.{lt-ltb, le-ltb}
+use borrow.Author.Tests.{lt-ltb, le-ltb, le-leb, lt-leb}
 use lib.ListN.{length, get_or}
-use Rattle.words.specs.Choice.{refusal}
-use Rattle.octets.specs.Reader.{Res, ok, fault, then, Reader, ◌>>=◌, ◌>>◌, give, num_of, byte}
+use lib.Dec.{leb}
+use Rattle.words.specs.Sizes.{SLICE_SIZE, MAX_NUM_SLICES}
+use Rattle.octets.specs.Reader.{Res, ok, fault, then, Reader, ◌>>=◌, ◌>>◌, give, num_of, need, byte}
 use Rattle.octets.specs.Varint.{Part, var, run, run_of}
 use Rattle.octets.specs.declared.Got.{Got}
 use Rattle.octets.specs.declared.Got.TheVariants as got
@@ -19,9 +21,9 @@ use Rattle.packet_slice.specs.declared.Front.{Front}
 use Rattle.packet_slice.specs.declared.Front.TheVariants as front-is
 use Rattle.packet_slice.specs.declared.Label.{Label}
 use Rattle.packet_slice.specs.declared.Label.TheVariants as Label-is
-use Rattle.packet_slice.specs.Slice.{Slice, label_faults, payload_faults, judge, slice}
+use Rattle.packet_slice.specs.Slice.{Slice, payload, slice}
+use Rattle.packet_slice.specs.Layout.{Payload}
 use Rattle.packet_slice.specs.Steps.{front, front_of, label, label_of}
-use Rattle.packet_slice.proofs.Allowed.{judged-bad, judged-good}
 
 -- ---- the sequence and the channel
 
@@ -68,12 +70,18 @@ fuse (ok a n) f g h e = e a n
 fuse (fault x) f g h e = refl
 
 -- what follows the front and the label
-unfoldable tail : ℕ × ℕ → ℕ × ℕ × ℕ → Reader Slice
-tail f l = do
-  judge (label_faults l.1 l.2)
+unfoldable tail : Bool → ℕ × ℕ → ℕ × ℕ × ℕ → Reader Slice
+tail reliable f l = do
+  need (leb 1 l.2) 2
+  need (leb l.2 MAX_NUM_SLICES) 2
   p ← run
-  judge (payload_faults p.len)
+  payload reliable p.len
   give (record { sequence = f.0; channel = f.1; id = l.0; index = l.1; num-slices = l.2; place = p.place; len = p.len })
+
+payload-fits : (reliable : Bool) (n : ℕ) (s : List ℕ) (at : ℕ) → Payload reliable n → payload reliable n s at ≡ ok tt at
+unfolding payload need
+payload-fits true n s at j = simp (le-leb _ _ j.0, le-leb _ _ j.1)
+payload-fits false n s at j = refl
 
 run-lands : Lands Part run
 unfolding run
@@ -82,38 +90,52 @@ run-lands = lands-then var-lands (λ n. keeps_then (keep (bytes-lands n)) (λ b.
 pub payload-end : (s : List ℕ) (at : ℕ) {r : Run} → run_of r ≡ run s at → {place len : ℕ} → r ≡ ran.At place len → place + len ≤ length s
 payload-end s at e m = landed run-lands s at (sym (ap run_of m) ∙ e)
 
-module _ (s : List ℕ) (at : ℕ) where
-  steps : then (front s at) (λ f a. then (label s a) (λ l b. tail f l s b)) ≡ slice s at
+pub judged : (reliable : Bool) (n : ℕ) → reliable ≡ true → 1 ≤ n → n ≤ SLICE_SIZE → Payload reliable n
+judged reliable n t i j = rw t (i, j)
+
+pub unjudged : (reliable : Bool) (n : ℕ) → reliable ≡ false → Payload reliable n
+unjudged reliable n t = rw t tt
+
+module _ (reliable : Bool) (s : List ℕ) (at : ℕ) where
+  steps : then (front s at) (λ f a. then (label s a) (λ l b. tail reliable f l s b)) ≡ slice reliable s at
   unfolding slice front label tail
   steps = fuse (var s at) _ _ _ (λ seq a. fuse (byte s a) _ _ _ (λ channel b. fuse (var s b) _ _ _ (λ id c. fuse (var s c) _ _ _ (λ index d. fuse (var s d) _ _ _ (λ n e. refl)))))
 
   module _ {f : Front} (e0 : front_of f ≡ front s at) where
-    pub no_front : f ≡ front-is.Short → fault 1 ≡ slice s at
+    pub no_front : f ≡ front-is.Short → fault 1 ≡ slice reliable s at
     no_front m = rw (← steps) (simp (← e0, m))
 
     module _ {seq : Sequence} {channel a : ℕ} (m0 : f ≡ front-is.Read seq channel a) {l : Label} (e1 : label_of l ≡ label s a) where
-      pub no_label : l ≡ Label-is.Short → fault 1 ≡ slice s at
+      pub no_label : l ≡ Label-is.Short → fault 1 ≡ slice reliable s at
       no_label m = rw (← steps) (simp (← e0, m0, ← e1, m))
 
       module _ {id : MessageId} {index : SliceIndex} {n b : ℕ} (m1 : l ≡ Label-is.Read id index n b) where
-        named : tail (seq.0, channel) (id.0, index.0, n) s b ≡ slice s at
+        named : tail reliable (seq.0, channel) (id.0, index.0, n) s b ≡ slice reliable s at
         named = rw (← steps) (simp (← e0, m0, ← e1, m1))
 
-        pub label-refused : {k : ℕ} → refusal (label_faults index.0 n) ≡ k → (k ≡ 0 → ⊥) → fault k ≡ slice s at
-        unfolding tail
-        label-refused e h = rw (← named) (simp (judged-bad (label_faults index.0 n) s b e h))
+        pub count-zero : n < 1 → fault 2 ≡ slice reliable s at
+        unfolding tail need
+        count-zero h = rw (← named) (simp (lt-leb _ _ h))
 
-        module _ (y : refusal (label_faults index.0 n) ≡ 0) {r : Run} (e2 : run_of r ≡ run s b) where
-          pub no_payload : r ≡ ran.Short → fault 1 ≡ slice s at
-          unfolding tail
-          no_payload m = rw (← named) (simp (judged-good (label_faults index.0 n) s b y, ← e2, m))
+        pub count-above : 1 ≤ n → MAX_NUM_SLICES < n → fault 2 ≡ slice reliable s at
+        unfolding tail need
+        count-above h k = rw (← named) (simp (le-leb _ _ h, lt-leb _ _ k))
+
+        module _ (h : 1 ≤ n) (k : n ≤ MAX_NUM_SLICES) {r : Run} (e2 : run_of r ≡ run s b) where
+          pub no_payload : r ≡ ran.Short → fault 1 ≡ slice reliable s at
+          unfolding tail need
+          no_payload m = rw (← named) (simp (le-leb _ _ h, le-leb _ _ k, ← e2, m))
 
           module _ {place len : ℕ} (m2 : r ≡ ran.At place len) where
-            pub payload-refused : {k : ℕ} → refusal (payload_faults len) ≡ k → (k ≡ 0 → ⊥) → fault k ≡ slice s at
-            unfolding tail
-            payload-refused e h = rw (← named) (simp (judged-good (label_faults index.0 n) s b y, ← e2, m2, judged-bad (payload_faults len) s (place + len) e h))
+            pub payload-empty : reliable ≡ true → len < 1 → fault 4 ≡ slice reliable s at
+            unfolding tail need payload
+            payload-empty t j = rw (← named) (simp (le-leb _ _ h, le-leb _ _ k, ← e2, m2, t, lt-leb _ _ j))
 
-            pub payload-there : refusal (payload_faults len) ≡ 0
-                → ok (record { sequence = seq.0; channel = channel; id = id.0; index = index.0; num-slices = n; place = place; len = len }) (place + len) ≡ slice s at
-            unfolding tail
-            payload-there e = rw (← named) (simp (judged-good (label_faults index.0 n) s b y, ← e2, m2, judged-good (payload_faults len) s (place + len) e))
+            pub payload-above : reliable ≡ true → 1 ≤ len → SLICE_SIZE < len → fault 3 ≡ slice reliable s at
+            unfolding tail need payload
+            payload-above t i j = rw (← named) (simp (le-leb _ _ h, le-leb _ _ k, ← e2, m2, t, le-leb _ _ i, lt-leb _ _ j))
+
+            pub payload-there : Payload reliable len
+                → ok (record { sequence = seq.0; channel = channel; id = id.0; index = index.0; num-slices = n; place = place; len = len }) (place + len) ≡ slice reliable s at
+            unfolding tail need
+            payload-there j = rw (← named) (simp (le-leb _ _ h, le-leb _ _ k, ← e2, m2, payload-fits reliable len s (place + len) j))

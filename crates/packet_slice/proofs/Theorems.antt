@@ -1,16 +1,15 @@
--- Packets of one piece: the reader accepts exactly the spellings; what the writer accepts is exactly what the reader can give; what is not allowed
--- is refused by both, by the same number; and each promise admits one outcome. Assumes nothing.
+-- Packets of one piece: the reader accepts exactly the spellings; what is written is read back, or refused where document 01 does not allow it;
+-- and each promise admits one outcome. Assumes nothing.
 use Prim.Native.Nat.{ℕ, suc, ◌+◌, ◌≤◌, ◌<◌}
 use mathlib.Core.Path.{◌≡◌, refl, sym, ap, ◌∙◌}
+use mathlib.Core.Logic.{◌⊎◌, ⊎_elim}
 use mathlib.Core.Bool.{Bool, true, false}
 use mathlib.Core.List.{List, [], ◌∷◌, ◌++◌}
 use native.Mathlib.Omega.{arith}
 use native.Mathlib.Nat.{zero-add}
 use native.Mathlib.Numerals.{add-one}
-use borrow.Author.Tests.{eqb-true}
-use lib.Dec.{eqb}
-use lib.ListN.{length, get_or, take, drop, length-take, length-drop}
-use Rattle.words.specs.Choice.{pick, refusal}
+use lib.ListN.{length, get_or, take, drop}
+use Rattle.words.specs.Sizes.{SLICE_SIZE, MAX_NUM_SLICES}
 use Rattle.words.specs.Lists.{splice}
 use Rattle.words.proofs.Suffix as suffix
 use Rattle.words.proofs.Unique.{told-apart, refusal_of, refusal-undone}
@@ -30,14 +29,13 @@ use Rattle.packet_slice.specs.declared.Label.TheVariants as Label-is
 use Rattle.packet_slice.specs.declared.Slice as code
 use Rattle.packet_slice.specs.declared.SliceRead.{SliceRead}
 use Rattle.packet_slice.specs.declared.SliceRead.TheVariants as read
-use Rattle.packet_slice.specs.Slice.{Slice, label_faults, payload_faults, piece_faults, Allowed, slice, read_of}
+use Rattle.packet_slice.specs.Slice.{Slice, slice, read_of}
 use Rattle.packet_slice.specs.Write.{SliceSaid, type_byte_of, slice_bytes, slice_said, put_slice_of}
-use Rattle.packet_slice.specs.Layout.{SliceSpelt, packet}
-use Rattle.packet_slice.proofs.Allowed.{refusal-after, allowed-within}
-use Rattle.packet_slice.proofs.Read.{label-refused, payload-refused}
-use Rattle.packet_slice.proofs.Wrote.{length_part, length-slice}
-use Rattle.packet_slice.proofs.Judge.{none-too-large, put-to, accepted}
-use Rattle.packet_slice.proofs.Spelt.{exact-slice, laid-says, laid-fits, laid_out}
+use Rattle.packet_slice.specs.Layout.{Payload, SliceSpelt, packet}
+use Rattle.packet_slice.proofs.Read.{count-zero, count-above, payload-empty, payload-above}
+use Rattle.packet_slice.proofs.Wrote.{length-slice}
+use Rattle.packet_slice.proofs.Judge.{accepted}
+use Rattle.packet_slice.proofs.Spelt.{exact-slice, laid-says, laid_out}
 use Rattle.packet_slice.proofs.Written.{Sayable, sayable, Met, met}
 
 -- ---- the reader accepts exactly the spellings
@@ -52,11 +50,11 @@ type-above-0 true = omega arith
 type-above-0 false = omega arith
 
 -- a packet that is read is spelt by the bytes that were used
-pub sound : (reliable : Bool) (s : List ℕ) {p : Slice} {used : ℕ} → Bytes s → get_or s 0 0 ≡ type_byte_of reliable → slice s 1 ≡ ok p used
+pub sound : (reliable : Bool) (s : List ℕ) {p : Slice} {used : ℕ} → Bytes s → get_or s 0 0 ≡ type_byte_of reliable → slice reliable s 1 ≡ ok p used
     → SliceSpelt reliable (slice_said s p) (take used s) × (used ≤ length s)
 sound reliable s {p} {used} w b e =
     let f = begins s (type_byte_of reliable) (type-above-0 reliable) b in
-    let x = exact-slice.sound s 1 w e in
+    let x = (exact-slice reliable).sound s 1 w e in
     let i : 1 ≤ length s = omega (arith, ap length f) in
     let n : used ≡ suc (length x.spelling) = omega (arith, x.ends) in
     let t : take used s ≡ type_byte_of reliable ∷ x.spelling =
@@ -64,14 +62,14 @@ sound reliable s {p} {used} w b e =
     (rw t (laid-says x.stands x.says), omega (arith, x.ends, here-fits x.stands i))
 
 -- at place `at` of s stands a packet that says `said`, and the place after it is `next`
-pub record Reads (s : List ℕ) (at : ℕ) (said : SliceSaid) (next : ℕ) : Type 0 where
+pub record Reads (reliable : Bool) (s : List ℕ) (at : ℕ) (said : SliceSaid) (next : ℕ) : Type 0 where
   pub packet : Slice
-  pub read : slice s (at + 1) ≡ ok packet next
+  pub read : slice reliable s (at + 1) ≡ ok packet next
   pub says : slice_said s packet ≡ said
 
 -- every spelling is read, wherever it stands and whatever follows it
 pub complete-at : (s : List ℕ) (at : ℕ) (q : List ℕ) {reliable : Bool} {said : SliceSaid} {bs : List ℕ} → SliceSpelt reliable said bs → drop at s ≡ bs ++ q
-    → Reads s at said (at + length bs)
+    → Reads reliable s at said (at + length bs)
 complete-at s at q {reliable} {said} {bs} r e =
     let y = laid_out (at + 1) r in
     let f : drop at s ≡ type_byte_of reliable ∷ (y.body ++ q) = e ∙ ap (λ (l : List ℕ). l ++ q) y.whole in
@@ -80,81 +78,72 @@ complete-at s at q {reliable} {said} {bs} r e =
     let n : at + 1 + length y.body ≡ at + length bs = omega (arith, ap length y.whole) in
     record {
       packet = y.part;
-      read = exact-slice.complete s (at + 1) (omega arith) h y.laid ∙ ap (ok y.part) n;
+      read = (exact-slice reliable).complete s (at + 1) (omega arith) h y.laid ∙ ap (ok y.part) n;
       says = y.same s h;
     }
 
-pub complete : {reliable : Bool} {said : SliceSaid} {bs : List ℕ} → SliceSpelt reliable said bs → (q : List ℕ) → Reads (bs ++ q) 0 said (length bs)
+pub complete : {reliable : Bool} {said : SliceSaid} {bs : List ℕ} → SliceSpelt reliable said bs → (q : List ℕ) → Reads reliable (bs ++ q) 0 said (length bs)
 complete r q = rw zero-add at (complete-at _ 0 q r refl)
 
--- ---- what the writer accepts is exactly what the reader can give
+-- ---- what is written is read back
 
--- the writer writes a spelling of a piece that is allowed
-pub written : (reliable : Bool) (said : SliceSaid) → Sayable said → Allowed said.index said.num-slices (length said.bytes) → SliceSpelt reliable said (slice_bytes reliable said)
+-- what document 01 lets a reader take of what a writer may write
+pub record Allowed (reliable : Bool) (said : SliceSaid) : Type 0 where
+  pub some : 1 ≤ said.num-slices
+  pub few : said.num-slices ≤ MAX_NUM_SLICES
+  pub payload : Payload reliable (length said.bytes)
+
+-- the writer writes a spelling
+pub written : (reliable : Bool) (said : SliceSaid) → Sayable said → Allowed reliable said → SliceSpelt reliable said (slice_bytes reliable said)
 unfolding slice_bytes
 written reliable said w a =
-    packet {reliable = reliable} (var-spelt _ w.sequence) w.channel (var-spelt _ w.id) (var-spelt _ w.index) (var-spelt _ w.num-slices) (run-spelt _ w.bytes) a
+    packet {reliable = reliable} (var-spelt _ w.sequence) w.channel (var-spelt _ w.id) (var-spelt _ w.index) (var-spelt _ w.num-slices) a.some a.few (run-spelt _ w.bytes) a.payload
 
 -- the same packet and length, with anything after it
-pub written_read : (reliable : Bool) (said : SliceSaid) → Sayable said → Allowed said.index said.num-slices (length said.bytes) → (q : List ℕ)
-    → Reads (slice_bytes reliable said ++ q) 0 said (length (slice_bytes reliable said))
+pub written_read : (reliable : Bool) (said : SliceSaid) → Sayable said → Allowed reliable said → (q : List ℕ)
+    → Reads reliable (slice_bytes reliable said ++ q) 0 said (length (slice_bytes reliable said))
 written_read reliable said w a q = complete (written reliable said w a) q
 
--- whatever `put_slice` accepts it writes as a spelling
-pub put-spelt : (reliable : Bool) (p : Slice) (store : List ℕ) (at m : ℕ) {next : ℕ} → p.channel < 256 → put_slice_of reliable p store at m ≡ done next
-    → SliceSpelt reliable (slice_said store p) (slice_bytes reliable (slice_said store p))
-put-spelt reliable p store at m c e =
-    let x = accepted reliable p store at m e in
-    let l = length_part p.place p.len store x.0.stored in
-    written reliable (slice_said store p) (sayable p store c x.0) (rw l x.2)
-
--- so it is read back from the buffer
-pub put-read : (reliable : Bool) (p : Slice) (store out : List ℕ) (at : ℕ) {next : ℕ} → p.channel < 256 → put_slice_of reliable p store at (length out) ≡ done next
-    → Reads (splice at (slice_bytes reliable (slice_said store p)) out) at (slice_said store p) next
-put-read reliable p store out at {next} c e =
+-- and so in the buffer, for every packet that `put_slice` accepts
+pub put-read : (reliable : Bool) (p : Slice) (store out : List ℕ) (at : ℕ) {next : ℕ} → p.channel < 256 → put_slice_of reliable p store at (length out) ≡ done next → Allowed reliable (slice_said store p)
+    → Reads reliable (splice at (slice_bytes reliable (slice_said store p)) out) at (slice_said store p) next
+put-read reliable p store out at {next} c e a =
     let x = accepted reliable p store at (length out) e in
     let l = length-slice reliable store p x.0.stored in
     let r : at + length (slice_bytes reliable (slice_said store p)) ≤ length out = omega (arith, x.0.room) in
-    rw x.1 (complete-at _ at _ (put-spelt reliable p store at (length out) c e) (suffix.drop-at-splice at (slice_bytes reliable (slice_said store p)) out r))
+    rw x.1 (complete-at _ at _ (written reliable (slice_said store p) (sayable p store c x.0) a) (suffix.drop-at-splice at (slice_bytes reliable (slice_said store p)) out r))
 
--- and whatever was read the writer accepts, as either kind, at any place where there is room for it
-pub read-put : (reliable : Bool) (s : List ℕ) (at : ℕ) {p : Slice} {next : ℕ} → Bytes s → slice s at ≡ ok p next
-    → (to m : ℕ) → to + length (slice_bytes reliable (slice_said s p)) ≤ m → put_slice_of reliable p s to m ≡ done (to + length (slice_bytes reliable (slice_said s p)))
-read-put reliable s at {p} w e to m room =
-    let x = exact-slice.sound s at w e in
-    let f = laid-fits x.stands x.says in
-    let h = stored s p f.long (allowed-within p.index p.num-slices p.len f.allowed).filled in
-    let l = length-slice reliable s p h in
-    sym (put-to reliable p s to m h (none-too-large p f.sequence f.id f.index f.num-slices f.len) f.allowed (omega (arith, room)) refl)
-  where
-    stored : (s : List ℕ) (p : Slice) → length (take p.len (drop p.place s)) ≡ p.len → 1 ≤ p.len → p.place + p.len ≤ length s
-    stored s p l i = let a = length-take p.len (drop p.place s) in let b = length-drop p.place s in omega (arith, l, i)
+-- ---- what is written and not allowed is refused
 
--- ---- what is not allowed is refused by both, by the same number
-
--- the number is the one that `slice_refusal` has for it
 module _ (s : List ℕ) (at : ℕ) (q : List ℕ) (reliable : Bool) (said : SliceSaid) (w : Sayable said) (e : drop at s ≡ slice_bytes reliable said ++ q) where
-  pub refused-alike : {k : ℕ} → refusal (piece_faults said.index said.num-slices (length said.bytes)) ≡ k → (k ≡ 0 → ⊥) → slice s (at + 1) ≡ fault k
-  refused-alike {k} x z = go (eqb (refusal (label_faults said.index said.num-slices)) 0) refl (sym (refusal-after (label_faults said.index said.num-slices) (payload_faults (length said.bytes)) refl) ∙ x)
-    where
-      m : Met s (at + 1) said
-      m = met s at q reliable said w e
+  m : Met s (at + 1) said
+  m = met s at q reliable said w e
 
-      -- what the code has after each of its three readings
-      f : Front
-      f = front-is.Read (record { 0 = said.sequence }) said.channel m.a
+  -- what the code has after each of its three readings
+  abbrev f : Front
+  f = front-is.Read (record { 0 = said.sequence }) said.channel m.a
 
-      l : Label
-      l = Label-is.Read (record { 0 = said.id }) (record { 0 = said.index }) said.num-slices m.b
+  abbrev l : Label
+  l = Label-is.Read (record { 0 = said.id }) (record { 0 = said.index }) said.num-slices m.b
 
-      r : Run
-      r = ran.At m.place (length said.bytes)
+  abbrev r : Run
+  r = ran.At m.place (length said.bytes)
 
-      go : (b : Bool) → eqb (refusal (label_faults said.index said.num-slices)) 0 ≡ b
-          → pick b (refusal (payload_faults (length said.bytes))) (refusal (label_faults said.index said.num-slices)) ≡ k → slice s (at + 1) ≡ fault k
-      go true y i =
-          sym (payload-refused s (at + 1) {f = f} m.front-met refl {l = l} m.label-met refl (eqb-true (refusal (label_faults said.index said.num-slices)) 0 y) {r = r} m.run-met refl i z)
-      go false y i = sym (label-refused s (at + 1) {f = f} m.front-met refl {l = l} m.label-met refl i z)
+  -- 2 for a number of slices that is 0 or above the largest
+  pub number-refused : (said.num-slices < 1) ⊎ (MAX_NUM_SLICES < said.num-slices) → slice reliable s (at + 1) ≡ fault 2
+  number-refused h =
+      sym (⊎_elim (λ k. count-zero reliable s (at + 1) {f = f} m.front-met refl {l = l} m.label-met refl k)
+      (λ k. count-above reliable s (at + 1) {f = f} m.front-met refl {l = l} m.label-met refl (omega arith) k)
+      h)
+
+  module _ (t : reliable ≡ true) (some : 1 ≤ said.num-slices) (few : said.num-slices ≤ MAX_NUM_SLICES) where
+    -- 4 for an empty payload of type 2
+    pub empty-refused : length said.bytes < 1 → slice reliable s (at + 1) ≡ fault 4
+    empty-refused h = sym (payload-empty reliable s (at + 1) {f = f} m.front-met refl {l = l} m.label-met refl some few {r = r} m.run-met refl t h)
+
+    -- 3 for one above 1,200
+    pub long-refused : SLICE_SIZE < length said.bytes → slice reliable s (at + 1) ≡ fault 3
+    long-refused h = sym (payload-above reliable s (at + 1) {f = f} m.front-met refl {l = l} m.label-met refl some few {r = r} m.run-met refl t (omega arith) h)
 
 -- ---- one outcome only
 
@@ -179,8 +168,8 @@ read-undone (read.Whole p next) = refl
 read-undone (read.Refused e) = ap read.Refused (refusal-undone e)
 
 -- the promise of `read_slice` admits one answer
-pub one-read : (s : List ℕ) (at : ℕ) (r q : SliceRead) → read_of r ≡ slice s at → read_of q ≡ slice s at → r ≡ q
-one-read s at r q e f = told-apart read_of read_from read-undone r q (e ∙ sym f)
+pub one-read : (reliable : Bool) (s : List ℕ) (at : ℕ) (r q : SliceRead) → read_of r ≡ slice reliable s at → read_of q ≡ slice reliable s at → r ≡ q
+one-read reliable s at r q e f = told-apart read_of read_from read-undone r q (e ∙ sym f)
 
 -- and that of `put_slice` one answer and one buffer
 module _ (reliable : Bool) (p : Slice) (store : List ℕ) (at : ℕ) (out : List ℕ) where

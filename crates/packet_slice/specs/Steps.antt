@@ -2,24 +2,14 @@
 use Rattle.std.specs.Prelude.{ℕ, ◌+◌, ◌≤◌, ◌<◌, Bool, true, false, List, [], ◌∷◌, ◌++◌, leb}
 use Rattle.words.specs.Sizes.{LIMIT}
 use Rattle.words.specs.Choice.{pick}
-use Rattle.words.specs.Refusal.{number_of}
 use Rattle.octets.specs.Reader.{Res, ok, fault, Reader, ◌>>=◌, give, byte}
 use Rattle.octets.specs.Varint.{var, var_len, var_bytes}
 use Rattle.packet_slice.specs.Slice.{Slice}
 use Rattle.packet_slice.specs.Write.{type_byte_of}
-use Rattle.packet_slice.specs.declared.Verdict.{Verdict}
-use Rattle.packet_slice.specs.declared.Verdict.TheVariants as verdict
 use Rattle.packet_slice.specs.declared.Front as Front
 use Rattle.packet_slice.specs.declared.Front.TheVariants as front-is
 use Rattle.packet_slice.specs.declared.Label as Label
 use Rattle.packet_slice.specs.declared.Label.TheVariants as Label-is
-
--- ---- judging
-
--- the number of the refusal, 0 for none
-abbrev pub verdict_of : Verdict → ℕ
-verdict_of verdict.Allowed = 0
-verdict_of (verdict.Refused e) = number_of e
 
 -- ---- reading
 

@@ -1,11 +1,10 @@
--- Packets of one piece, written. Document 01, "Packet layouts" and the order of refusals in encoding; document 02, [2]: what the reader
--- refuses the writer refuses, by the same numbers. Assumes nothing.
+-- Packets of one piece, written. Document 01, "Packet layouts" and the order of refusals in encoding. Assumes nothing.
 use Rattle.std.specs.Prelude.{ℕ, ◌+◌, Bool, true, false, List, [], ◌∷◌, ◌++◌, length, take, drop, ltb, leb}
 use Rattle.words.specs.Sizes.{LIMIT}
 use Rattle.words.specs.Choice.{refusal}
 use Rattle.octets.specs.Varint.{var_bytes, run_bytes}
 use Rattle.octets.specs.Writer.{Outcome, outcome}
-use Rattle.packet_slice.specs.Slice.{Slice, piece_faults}
+use Rattle.packet_slice.specs.Slice.{Slice}
 
 -- ---- bytes
 
@@ -40,7 +39,7 @@ slice_said s p =
       bytes = take p.len (drop p.place s);
     }
 
--- ---- the refusals, in their order: 10, 13, then 2, 19, 4, 3 of the piece, then 1; at place `at` of m bytes
+-- ---- the refusals, in their order: 10, 13, 1; at place `at` of m bytes
 
 unfoldable pub slice_refusal : Bool → Slice → List ℕ → ℕ → ℕ → ℕ
 slice_refusal reliable p src at m =
@@ -51,8 +50,7 @@ slice_refusal reliable p src at m =
     (leb LIMIT p.index, 13) ∷
     (leb LIMIT p.num-slices, 13) ∷
     (leb LIMIT p.len, 13) ∷
-    (piece_faults p.index p.num-slices p.len ++
-    ((ltb m (at + length (slice_bytes reliable (slice_said src p))), 1) ∷ []))
+    (ltb m (at + length (slice_bytes reliable (slice_said src p))), 1) ∷ []
     )
 
 unfoldable pub put_slice_of : Bool → Slice → List ℕ → ℕ → ℕ → Outcome

@@ -1,14 +1,13 @@
-// Packets of one piece, read and written: type 2, ReliableSlice, and type 3, UnreliableSlice. But for the type
-// byte, which `reliable` tells apart, the two are alike: one rule says which pieces are allowed, to reader and writer.
+// Packets of one piece, read and written: type 2, ReliableSlice, and type 3, UnreliableSlice, which
+// has the same layout and judges its payload less. `reliable` tells the two apart.
 ghost use Rattle.std.specs.Prelude.{◌≡◌, ◌+◌, ◌≤◌, ◌<◌, length};
 ghost use Rattle.words.specs.Sizes.{LIMIT};
-ghost use Rattle.words.specs.Choice.{refusal};
 ghost use Rattle.words.specs.Lists.{splice};
 ghost use Rattle.octets.specs.Writer.{put_of, left};
 ghost use Rattle.octets.specs.Varint.{var_len};
-ghost use Rattle.packet_slice.specs.Slice.{label_faults, payload_faults, piece_faults, slice, slice_of, read_of};
+ghost use Rattle.packet_slice.specs.Slice.{slice, slice_of, read_of};
 ghost use Rattle.packet_slice.specs.Write.{type_byte_of, slice_bytes, slice_said, put_slice_of};
-ghost use Rattle.packet_slice.specs.Steps.{verdict_of, front, front_of, label, label_of, front_bytes, label_bytes, too_large_of, slice_len_of, Judged};
+ghost use Rattle.packet_slice.specs.Steps.{front, front_of, label, label_of, front_bytes, label_bytes, too_large_of, slice_len_of, Judged};
 
 use octets::{Got, Put, Run};
 use words::{LIMIT, MAX_NUM_SLICES, MessageId, Refusal, SLICE_SIZE, Sequence, SliceIndex};
@@ -46,52 +45,6 @@ enum Label {
     Short,
 }
 
-// What is judged of a piece: it is allowed, or the refusal.
-#[derive(Drop)]
-enum Verdict {
-    Allowed,
-    Refused(Refusal),
-}
-
-// Judges how many pieces there are, and then which one this is.
-fn judge_label(index: SliceIndex, num_slices: u64) -> Verdict
-    ensures { verdict_of result ≡ refusal (label_faults index.0 num_slices) }
-{
-    if num_slices < 1 {
-        return Verdict::Refused(Refusal::InvalidNumSlices);
-    }
-    if MAX_NUM_SLICES < num_slices {
-        return Verdict::Refused(Refusal::InvalidNumSlices);
-    }
-    if num_slices <= index.0 {
-        return Verdict::Refused(Refusal::InvalidSliceIndex);
-    }
-    Verdict::Allowed
-}
-
-// Judges the length of a payload.
-fn judge_payload(len: usize) -> Verdict
-    ensures { verdict_of result ≡ refusal (payload_faults len) }
-{
-    if len < 1 {
-        return Verdict::Refused(Refusal::EmptySlice);
-    }
-    if SLICE_SIZE < len {
-        return Verdict::Refused(Refusal::SliceSizeAboveLimit);
-    }
-    Verdict::Allowed
-}
-
-// Judges a whole piece, in the order in which it is read.
-fn judge_piece(packet: Slice) -> Verdict
-    ensures { verdict_of result ≡ refusal (piece_faults packet.slice_index.0 packet.num_slices packet.len) }
-{
-    match judge_label(packet.slice_index, packet.num_slices) {
-        Verdict::Refused(e) => Verdict::Refused(e),
-        Verdict::Allowed => judge_payload(packet.len),
-    }
-}
-
 // Reads the sequence and the channel.
 fn get_front(s: &[u8], at: usize) -> Front
     ensures { front_of result ≡ front s.now at }
@@ -122,8 +75,8 @@ fn get_label(s: &[u8], at: usize) -> Label
 }
 
 // Reads what follows the type byte, from a place on.
-pub fn read_slice(s: &[u8], at: usize) -> SliceRead
-    ensures { read_of result ≡ slice s.now at }
+pub fn read_slice(s: &[u8], at: usize, reliable: bool) -> SliceRead
+    ensures { read_of result ≡ slice reliable s.now at }
 {
     let Front::Read(sequence, channel_id, a) = get_front(s, at) else {
         return SliceRead::Refused(Refusal::BufferTooShort);
@@ -131,16 +84,22 @@ pub fn read_slice(s: &[u8], at: usize) -> SliceRead
     let Label::Read(message_id, slice_index, num_slices, b) = get_label(s, a) else {
         return SliceRead::Refused(Refusal::BufferTooShort);
     };
-    let labelled = judge_label(slice_index, num_slices);
-    if let Verdict::Refused(e) = labelled {
-        return SliceRead::Refused(e);
+    if num_slices < 1 {
+        return SliceRead::Refused(Refusal::InvalidNumSlices);
+    }
+    if MAX_NUM_SLICES < num_slices {
+        return SliceRead::Refused(Refusal::InvalidNumSlices);
     }
     let Run::At(place, len) = octets::get_bytes_with_varint_length(s, b) else {
         return SliceRead::Refused(Refusal::BufferTooShort);
     };
-    let loaded = judge_payload(len);
-    if let Verdict::Refused(e) = loaded {
-        return SliceRead::Refused(e);
+    if reliable {
+        if len < 1 {
+            return SliceRead::Refused(Refusal::EmptySlice);
+        }
+        if SLICE_SIZE < len {
+            return SliceRead::Refused(Refusal::SliceSizeAboveLimit);
+        }
     }
     SliceRead::Whole(
         Slice {
@@ -267,10 +226,6 @@ pub fn put_slice(out: &mut [u8], at: usize, reliable: bool, packet: Slice, store
     }
     if too_large(packet) {
         return Put::Refused(Refusal::BadNumber);
-    }
-    let judged = judge_piece(packet);
-    if let Verdict::Refused(e) = judged {
-        return Put::Refused(e);
     }
     if out.len() < at {
         return Put::Refused(Refusal::BufferTooShort);

@@ -25,12 +25,9 @@ filled (fault e) j t = t
 
 -- ---- sizes
 
--- what stands before the messages beside the sequence: type byte, channel byte, two-byte count
-abbrev pub HEAD : ℕ
-HEAD = 4
-
+-- type byte, v seq, channel byte, two-byte count
 abbrev pub head_len : ℕ → ℕ
-head_len seq = var_len seq + HEAD
+head_len seq = var_len seq + 4
 
 abbrev pub id_len_of : Bool → ℕ → ℕ
 id_len_of true id = var_len id

@@ -21,7 +21,7 @@ use words::{LIMIT, MAX_MESSAGES, MessageId, Refusal, Sequence};
 pub const RECORD: usize = 3;
 
 // Bytes before the messages beside the sequence: type, channel and two-byte count.
-pub const HEAD: usize = 4;
+const HEAD: usize = 4;
 
 // A message in the input: its id, where its bytes start, and how many they are; or the input ends early.
 #[derive(Drop)]

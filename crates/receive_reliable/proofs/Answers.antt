@@ -14,8 +14,8 @@ use Rattle.words.specs.Sizes.{SLICE_SIZE, LIMIT}
 use Rattle.words.specs.Choice.{pick}
 use Rattle.words.specs.Lists.{lowest_free_of}
 use Rattle.channel.specs.Settings.{stores_hold_of}
-use Rattle.receive_reliable.specs.Receive.{lane_of, in_lane_of, is_held, ignores, Outcome, taken, ignored, refused, arrival_of, unless_refused, entry_refusal, message_refusal, MessageSpot, cell, nowhere, message_spot, SliceSpot, opened, fresh, nothing, count_refusal, fresh_refusal, constructor_at, Waiting, message, look_of, part_at}
-use Rattle.receive_reliable.specs.Steps.{entry_of, onward, message_to, lane_for_of, slice_to, open_lane, fresh_lane, lane_spot}
+use Rattle.receive_reliable.specs.Receive.{lane_of, in_lane_of, is_held, ignores, Outcome, taken, ignored, refused, arrival_of, judged, entry_refusal, message_refusal, MessageSpot, cell, nowhere, message_spot, SliceSpot, opened, fresh, nothing, count_refusal, fresh_refusal, constructor_at, Waiting, message, look_of, part_at}
+use Rattle.receive_reliable.specs.Steps.{entry_of, told, message_to, lane_for_of, slice_to, open_lane, fresh_lane, lane_spot}
 use Rattle.receive_reliable.specs.declared.ReceiveChannelReliable.{ReceiveChannelReliable}
 use Rattle.receive_reliable.specs.declared.Store.TheVariants.{Small, Lanes}
 use Rattle.receive_reliable.specs.declared.Held.{Held}
@@ -65,12 +65,12 @@ unfolding entry_of ignores
 not-held s id small lane go =
     not-either (ltb id s.oldest_pending_message_id) (is_held s id) (not-both (eqb (entry_refusal s id small lane) 0) (ignores s id) (entry_refusal s id small lane) go)
 
-gone : {A : Type 0} (f : Outcome → A) (m : A) (a b : Bool) (x : ℕ) → onward f m (pick a (pick b ignored taken) (refused x)) ≡ pick a (pick b (f ignored) m) (f (refused x))
+gone : {A : Type 0} (f : Outcome → A) (m : A) (a b : Bool) (x : ℕ) → told f m (pick a (pick b ignored taken) (refused x)) ≡ pick a (pick b (f ignored) m) (f (refused x))
 gone f m true true x = refl
 gone f m true false x = refl
 gone f m false b x = refl
 
-stops : {A : Type 0} (f : Outcome → A) (x m : A) (a : Arrival) → OneOf (1 ∷ 2 ∷ []) (tag_of the_type a) → onward f x (arrival_of a) ≡ onward f m (arrival_of a)
+stops : {A : Type 0} (f : Outcome → A) (x m : A) (a : Arrival) → OneOf (1 ∷ 2 ∷ []) (tag_of the_type a) → told f x (arrival_of a) ≡ told f m (arrival_of a)
 stops f x m arrival.Taken k = ⊎_elim (λ e. absurd (omega arith)) (λ e. absurd (omega arith)) k
 stops f x m arrival.Ignored k = refl
 stops f x m (arrival.Refused e) k = refl
@@ -79,18 +79,18 @@ stops f x m (arrival.Refused e) k = refl
 
 module _ (s : ReceiveChannelReliable) (id n small lane : ℕ) where
   message_on : MessageSpot
-  message_on = unless_refused (message_refusal s id n) (λ e. nowhere (refused e)) (cell (lowest_free_of s.cells s.settings.slots))
+  message_on = judged (message_refusal s id n) (λ e. nowhere (refused e)) (cell (lowest_free_of s.cells s.settings.slots))
 
-  message-goes : onward nowhere message_on (entry_of s id small lane) ≡ message_spot s id n small lane
+  message-goes : told nowhere message_on (entry_of s id small lane) ≡ message_spot s id n small lane
   unfolding message_on entry_of message_spot
   message-goes = gone nowhere message_on (eqb (entry_refusal s id small lane) 0) (ignores s id) (entry_refusal s id small lane)
 
   pub message-stops : (i : ℕ) (a : Arrival) → arrival_of a ≡ entry_of s id small lane → OneOf (1 ∷ 2 ∷ []) (tag_of the_type a) → message_to i a ≡ message_spot s id n small lane
-  message-stops i a e k = stops nowhere (cell i) message_on a k ∙ ap (onward nowhere message_on) e ∙ message-goes
+  message-stops i a e k = stops nowhere (cell i) message_on a k ∙ ap (told nowhere message_on) e ∙ message-goes
 
   module _ (go : taken ≡ entry_of s id small lane) where
     message-on : message_on ≡ message_spot s id n small lane
-    message-on = ap (onward nowhere message_on) go ∙ message-goes
+    message-on = ap (told nowhere message_on) go ∙ message-goes
 
     pub too_long : SLICE_SIZE < n → nowhere (refused 12) ≡ message_spot s id n small lane
     unfolding message_on message_refusal
@@ -119,18 +119,18 @@ module _ (s : ReceiveChannelReliable) (id n small lane : ℕ) where
 
 module _ (s : ReceiveChannelReliable) (id num small lane : ℕ) where
   slice_on : SliceSpot
-  slice_on = unless_refused (count_refusal s num) (λ e. nothing (refused e)) (pick (in_lane_of s id) (open_lane s (lane_of s id) num) (fresh_lane s num))
+  slice_on = judged (count_refusal s num) (λ e. nothing (refused e)) (pick (in_lane_of s id) (open_lane s (lane_of s id) num) (fresh_lane s num))
 
-  slice-goes : onward nothing slice_on (entry_of s id small lane) ≡ lane_spot s id num small lane
+  slice-goes : told nothing slice_on (entry_of s id small lane) ≡ lane_spot s id num small lane
   unfolding slice_on entry_of lane_spot
   slice-goes = gone nothing slice_on (eqb (entry_refusal s id small lane) 0) (ignores s id) (entry_refusal s id small lane)
 
   pub slice-stops : (x : SliceSpot) (a : Arrival) → arrival_of a ≡ entry_of s id small lane → OneOf (1 ∷ 2 ∷ []) (tag_of the_type a) → slice_to x a ≡ lane_spot s id num small lane
-  slice-stops x a e k = stops nothing x slice_on a k ∙ ap (onward nothing slice_on) e ∙ slice-goes
+  slice-stops x a e k = stops nothing x slice_on a k ∙ ap (told nothing slice_on) e ∙ slice-goes
 
   module _ (go : taken ≡ entry_of s id small lane) where
     slice-on : slice_on ≡ lane_spot s id num small lane
-    slice-on = ap (onward nothing slice_on) go ∙ slice-goes
+    slice-on = ap (told nothing slice_on) go ∙ slice-goes
 
     pub no_pieces : num ≡ 0 → nothing (refused 8) ≡ lane_spot s id num small lane
     unfolding slice_on count_refusal

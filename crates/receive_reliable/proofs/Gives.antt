@@ -27,14 +27,12 @@ use Rattle.slice_constructor.specs.Collect as c
 use Rattle.slice_constructor.specs.contracts.Collect as Collect'
 use Rattle.slice_constructor.proofs.Valid as cv
 use Rattle.slice_constructor.proofs.Part.{charge-most, piece-refused, piece-good, taken-now, store-back}
-use Rattle.receive_reliable.specs.Receive.{new_of, MadeGives, Outcome, ignored, refused, arrival_of, MessageSpot, cell, nowhere, message_spot, with_message_of, MessageGives, SliceSpot, opened, fresh, nothing, constructor_at, placed, slice_spot, with_lane_of, SliceGives, look_of, without_cell, without_lane, TakeGives, Valid, lacking, silent, slice_outcome, report_of}
-use Rattle.receive_reliable.specs.Steps.{held_in, shown_at, onward, message_to, slice_place_of, slice_to, lane_spot, Fits, piece_refusal}
+use Rattle.receive_reliable.specs.Receive.{new_of, MadeGives, Outcome, refused, arrival_of, MessageSpot, cell, nowhere, message_spot, with_message_of, MessageGives, SliceSpot, opened, fresh, nothing, constructor_at, placed, slice_spot, with_lane_of, SliceGives, look_of, without_cell, without_lane, TakeGives, Valid}
+use Rattle.receive_reliable.specs.Steps.{held_in, shown_at, told, message_to, slice_place_of, slice_to, lane_spot, Fits, piece_refusal}
 use Rattle.receive_reliable.specs.declared.ReceiveChannelReliable.{ReceiveChannelReliable}
 use Rattle.receive_reliable.specs.declared.Arrival.{Arrival}
 use Rattle.receive_reliable.specs.declared.Arrival.TheVariants as arrival
 use Rattle.receive_reliable.specs.contracts.Arrival as Arrival'
-use Rattle.receive_reliable.specs.declared.SliceArrival.{SliceArrival}
-use Rattle.receive_reliable.specs.declared.SliceArrival.TheVariants as slice
 use Rattle.receive_reliable.specs.declared.SlicePlace.{SlicePlace}
 use Rattle.receive_reliable.specs.declared.Store.TheVariants.{Small, Lanes}
 use Rattle.receive_reliable.specs.declared.Look.{Look}
@@ -73,7 +71,7 @@ module _ (s : ReceiveChannelReliable) (v : Valid s) where
 
 -- ---- what a place says
 
-not_taken : {A : Type 0} (f : Outcome → A) (x : A) (a : Arrival) → OneOf (1 ∷ 2 ∷ []) (tag_of Arrival'.the_type a) → onward f x (arrival_of a) ≡ f (arrival_of a)
+not_taken : {A : Type 0} (f : Outcome → A) (x : A) (a : Arrival) → OneOf (1 ∷ 2 ∷ []) (tag_of Arrival'.the_type a) → told f x (arrival_of a) ≡ f (arrival_of a)
 not_taken f x arrival.Taken k = ⊎_elim (λ e. absurd (omega arith)) (λ e. absurd (omega arith)) k
 not_taken f x arrival.Ignored k = refl
 not_taken f x (arrival.Refused e) k = refl
@@ -120,19 +118,12 @@ fits-taken s l id k f i n e =
     }
 
 module _ (s : ReceiveChannelReliable) (v : Valid s) (id num i : ℕ) (bs small lane : List ℕ) where
-  slice-left : (o : Outcome) (a : SliceArrival) → nothing o ≡ lane_spot s id num (length small) (length lane) → slice_outcome a ≡ o → report_of a ≡ silent
-      → SliceGives s id num i bs small lane lane (record { answer = a; state = s })
-  slice-left o a h ea er =
-      let e = spot-nothing s id num i (length bs) (length small) (length lane) o (sym h) in
-      record { answer = rw e ea; report = rw e er; state = rw e; bytes = rw e; valid = v }
-
-  pub slice-ignored : (x : SliceSpot) (a : Arrival) → slice_to x a ≡ lane_spot s id num (length small) (length lane) → a ≡ arrival.Ignored
-      → SliceGives s id num i bs small lane lane (record { answer = slice.Ignored; state = s })
-  slice-ignored x a h k = slice-left ignored slice.Ignored (ap (slice_to x) (sym k) ∙ h) refl refl
-
-  pub slice-stopped : (x : SliceSpot) (a : Arrival) (e : Refusal) → slice_to x a ≡ lane_spot s id num (length small) (length lane) → a ≡ arrival.Refused e
-      → SliceGives s id num i bs small lane lane (record { answer = slice.Refused e; state = s })
-  slice-stopped x a e h k = slice-left (refused (number_of e)) (slice.Refused e) (ap (slice_to x) (sym k) ∙ h) refl refl
+  pub slice-left : (x : SliceSpot) (a : Arrival) → slice_to x a ≡ lane_spot s id num (length small) (length lane)
+      → OneOf (1 ∷ 2 ∷ []) (tag_of Arrival'.the_type a) → SliceGives s id num i bs small lane lane (record { answer = a; state = s })
+  slice-left x a h k =
+      let left = sym h ∙ not_taken nothing x a k in
+      let e = spot-nothing s id num i (length bs) (length small) (length lane) (arrival_of a) left in
+      record { answer = rw e; state = rw e; bytes = rw e; valid = v }
 
   -- lane l, which is fresh or not, and the constructor that the piece goes to
   lane-fits : (l : ℕ) (b : Bool) → lane_spot s id num (length small) (length lane) ≡ pick b (fresh l) (opened l)
@@ -150,19 +141,10 @@ module _ (s : ReceiveChannelReliable) (v : Valid s) (id num i : ℕ) (bs small l
       → slice_spot s id num i (length bs) (length small) (length lane) ≡ pick b (fresh l) (opened l) → (t : ReceiveChannelReliable) → Valid t
       → t ≡ with_lane_of s l id (c.taken k i (length bs)) → (lane' : List ℕ)
       → lane' ≡ pick (get_or k.received i false) lane (splice (l * lane_len_of s.settings + i * SLICE_SIZE) bs lane)
-      → (m : ℕ) → m ≡ c.missing (c.taken k i (length bs))
-      → SliceGives s id num i bs small lane lane' (record { answer = slice.Taken m; state = t })
+      → SliceGives s id num i bs small lane lane' (record { answer = arrival.Taken; state = t })
   unfolding c.blank_of
-  good-in-lane l true k ek e t w et lane' eb m em =
-      record {
-        answer = rw e;
-        report = rw e (ap lacking (rw ek at em));
-        state = rw e (rw ek at et);
-        bytes = rw e (rw (ek, none-held PIECES i) at eb);
-        valid = w;
-      }
-  good-in-lane l false k ek e t w et lane' eb m em =
-      record { answer = rw e; report = rw e (ap lacking (rw ek at em)); state = rw e (rw ek at et); bytes = rw e (rw ek at eb); valid = w }
+  good-in-lane l true k ek e t w et lane' eb = record { answer = rw e; state = rw e (rw ek at et); bytes = rw e (rw (ek, none-held PIECES i) at eb); valid = w }
+  good-in-lane l false k ek e t w et lane' eb = record { answer = rw e; state = rw e (rw ek at et); bytes = rw e (rw ek at eb); valid = w }
 
 -- the piece goes to lane l, which is fresh or not
 pub record InLane (s : ReceiveChannelReliable) (id num i : ℕ) (bs small lane : List ℕ) (l : ℕ) (b : Bool) : Type 0 where
@@ -210,11 +192,11 @@ module _ {s : ReceiveChannelReliable} {id num i : ℕ} {bs small lane : List ℕ
       stored : back ≡ pick (eqb (piece_refusal s k i (length bs)) 0) (pick (get_or k.received i false) lane (splice (l * lane_len_of s.settings + i * SLICE_SIZE) bs lane)) lane
       stored = rw told-so at (store-back k i bs lane (l * lane_len_of s.settings) m room part r g)
 
-      pub slice-refused : (e : Refusal) → r.answer ≡ collect.Refused e → SliceGives s id num i bs small lane back (record { answer = slice.Refused e; state = s })
+      pub slice-refused : (e : Refusal) → r.answer ≡ collect.Refused e → SliceGives s id num i bs small lane back (record { answer = arrival.Refused e; state = s })
       slice-refused e he =
           let t = rw told-so at (piece-refused k i bs lane (l * lane_len_of s.settings) m room part r g e he) in
           let spot : slice_spot s id num i (length bs) (length small) (length lane) ≡ nothing (refused (number_of e)) = placed-spot ∙ rw (← started, t.0, t.1) in
-          record { answer = rw spot; report = rw spot; state = rw spot; bytes = rw spot (rw t.0 at stored); valid = x.valid }
+          record { answer = rw spot; state = rw spot; bytes = rw spot (rw t.0 at stored); valid = x.valid }
 
       module _ (t : OneOf (0 ∷ 1 ∷ []) (tag_of Collect'.the_type r.answer)) where
         fine : eqb (piece_refusal s k i (length bs)) 0 ≡ true
@@ -229,11 +211,10 @@ module _ {s : ReceiveChannelReliable} {id num i : ℕ} {bs small lane : List ℕ
         pub charge-fits : s.memory_usage_bytes - get_or s.lane_lens l 0 + c.lane_charge r.state ≤ s.settings.max_memory_usage_bytes
         charge-fits = let f = taken-fits in omega (arith, f.room, charge-most r.state f.valid f.one)
 
-        pub slice_taken : (u : ReceiveChannelReliable) → u ≡ with_lane_of s l id r.state → (n : ℕ) → n ≡ c.missing r.state
-            → SliceGives s id num i bs small lane back (record { answer = slice.Taken n; state = u })
-        slice_taken u eu n en =
+        pub slice_taken : (u : ReceiveChannelReliable) → u ≡ with_lane_of s l id r.state → SliceGives s id num i bs small lane back (record { answer = arrival.Taken; state = u })
+        slice_taken u eu =
             let spot : slice_spot s id num i (length bs) (length small) (length lane) ≡ pick b (fresh l) (opened l) = placed-spot ∙ rw (← started, fine) in
-            good-in-lane s x.valid id num i bs small lane l b k started spot u (rw eu (lane-valid s x.valid l id r.state taken-fits)) (eu ∙ ap (with_lane_of s l id) now-taken) back (rw fine at stored) n (en ∙ ap c.missing now-taken)
+            good-in-lane s x.valid id num i bs small lane l b k started spot u (rw eu (lane-valid s x.valid l id r.state taken-fits)) (eu ∙ ap (with_lane_of s l id) now-taken) back (rw fine at stored)
 
 -- ---- a new receiver
 

@@ -17,11 +17,10 @@ use Rattle.channel.specs.declared.Settings.{Settings}
 use Rattle.channel.specs.declared.Setup.{Setup}
 use Rattle.channel.proofs.Unique.{one-setup}
 use Rattle.channel.proofs.Held.{Here}
-use Rattle.slice_constructor.specs.declared.SliceConstructor.{SliceConstructor}
 use Rattle.slice_constructor.specs.Collect as c
 use Rattle.slice_constructor.proofs.Part.{repeat-good, repeat-bad, repeat-same}
 use Rattle.words.proofs.Tables.{by-test, clash, total-below}
-use Rattle.receive_reliable.specs.Receive.{lane_of, in_cell_of, is_held, ignores, Outcome, taken, ignored, refused, arrival_of, Report, lacking, silent, slice_outcome, report_of, MessageSpot, cell, nowhere, message_spot, message_answer_of, message_state, message_bytes, SliceSpot, opened, fresh, nothing, entry_refusal, count_refusal, constructor_at, placed, open_spot, slice_spot, with_lane_of, slice_answer_of, slice_state, slice_bytes, Waiting, message, none-waiting, refusing, waiting, look_of, look_at, part_at, after_take, MadeGives, MessageGives, SliceGives, TakeGives, Valid}
+use Rattle.receive_reliable.specs.Receive.{lane_of, in_cell_of, is_held, ignores, Outcome, taken, ignored, refused, arrival_of, MessageSpot, cell, nowhere, message_spot, message_answer_of, message_state, message_bytes, SliceSpot, opened, fresh, nothing, entry_refusal, count_refusal, constructor_at, placed, open_spot, slice_spot, with_lane_of, slice_answer_of, slice_state, slice_bytes, Waiting, message, none-waiting, refusing, waiting, look_of, look_at, part_at, after_take, MadeGives, MessageGives, SliceGives, TakeGives, Valid}
 use Rattle.receive_reliable.specs.Repeats.{Repeats}
 use Rattle.receive_reliable.specs.Usage.{cell_use, lane_use}
 use Rattle.receive_reliable.specs.declared.ReceiveChannelReliable.{ReceiveChannelReliable}
@@ -29,9 +28,6 @@ use Rattle.receive_reliable.specs.declared.Made.{Made}
 use Rattle.receive_reliable.specs.declared.Arrival.{Arrival}
 use Rattle.receive_reliable.specs.declared.Arrival.TheVariants as arrival
 use Rattle.receive_reliable.specs.declared.Arrived.{Arrived}
-use Rattle.receive_reliable.specs.declared.SliceArrival.{SliceArrival}
-use Rattle.receive_reliable.specs.declared.SliceArrival.TheVariants as slice
-use Rattle.receive_reliable.specs.declared.SliceArrived.{SliceArrived}
 use Rattle.receive_reliable.specs.declared.Store.{Store}
 use Rattle.receive_reliable.specs.declared.Look.{Look}
 use Rattle.receive_reliable.specs.declared.Look.TheVariants as look
@@ -76,23 +72,6 @@ arrival-undone (arrival.Refused e) = ap arrival.Refused (refusal-undone e)
 same-arrival : (a b : Arrival) → arrival_of a ≡ arrival_of b → a ≡ b
 same-arrival = told-apart arrival_of arrival_from arrival-undone
 
-abbrev slice_from : Outcome → Report → SliceArrival
-slice_from taken (lacking n) = slice.Taken n
-slice_from taken silent = slice.Taken 0
-slice_from ignored (lacking n) = slice.Ignored
-slice_from ignored silent = slice.Ignored
-slice_from (refused e) (lacking n) = slice.Refused (refusal_of e)
-slice_from (refused e) silent = slice.Refused (refusal_of e)
-
-slice-undone : (a : SliceArrival) → slice_from (slice_outcome a) (report_of a) ≡ a
-slice-undone (slice.Taken n) = refl
-slice-undone slice.Ignored = refl
-slice-undone (slice.Refused e) = ap slice.Refused (refusal-undone e)
-
-same-slice : (a b : SliceArrival) → slice_outcome a ≡ slice_outcome b → report_of a ≡ report_of b → a ≡ b
-same-slice a b e f =
-    sym (slice-undone a) ∙ ap (λ (o : Outcome). slice_from o (report_of a)) e ∙ ap (λ (n : Report). slice_from (slice_outcome b) n) f ∙ slice-undone b
-
 abbrev look_from : Waiting → Look
 look_from (message id store place len) = look.Message (record { 0 = id }) store place len
 look_from none-waiting = look.Nothing
@@ -122,14 +101,10 @@ pub one-message : (s : ReceiveChannelReliable) (id : ℕ) (bs small lane small�
 one-message s id bs small lane small₁ small₂ r q x y =
     (one-arrived r q (x.answer ∙ sym y.answer) (x.state ∙ sym y.state), x.bytes ∙ sym y.bytes)
 
-pub one-slice : (s : ReceiveChannelReliable) (id num i : ℕ) (bs small lane lane₁ lane₂ : List ℕ) (r q : SliceArrived)
+pub one-slice : (s : ReceiveChannelReliable) (id num i : ℕ) (bs small lane lane₁ lane₂ : List ℕ) (r q : Arrived)
     → SliceGives s id num i bs small lane lane₁ r → SliceGives s id num i bs small lane lane₂ q → (r ≡ q) × (lane₁ ≡ lane₂)
 one-slice s id num i bs small lane lane₁ lane₂ r q x y =
-    let a = same-slice r.answer q.answer (x.answer ∙ sym y.answer) (x.report ∙ sym y.report) in (
-      ap (λ (b : SliceArrival). record { answer = b; state = r.state }) a
-          ∙ ap (λ (u : ReceiveChannelReliable). record { answer = q.answer; state = u }) (x.state ∙ sym y.state),
-      x.bytes ∙ sym y.bytes,
-    )
+    (one-arrived r q (x.answer ∙ sym y.answer) (x.state ∙ sym y.state), x.bytes ∙ sym y.bytes)
 
 pub one-look : (s : ReceiveChannelReliable) (small lane : ℕ) (a b : Look) → look_of a ≡ look_at s small lane → look_of b ≡ look_at s small lane → a ≡ b
 one-look s small lane a b x y = same-look a b (x ∙ sym y)
@@ -183,22 +158,22 @@ module _ (s : ReceiveChannelReliable) where
   slice_kept (fresh l) id num i bs lane n = absurd (n refl)
   slice_kept (nothing o) id num i bs lane n = (refl, refl)
 
-  pub slice-not-taken : (id num i : ℕ) (bs small lane lane' : List ℕ) (r : SliceArrived) → SliceGives s id num i bs small lane lane' r
-      → (slice_outcome r.answer ≡ taken → ⊥) → (r.state ≡ s) × (lane' ≡ lane)
+  pub slice-not-taken : (id num i : ℕ) (bs small lane lane' : List ℕ) (r : Arrived) → SliceGives s id num i bs small lane lane' r
+      → (arrival_of r.answer ≡ taken → ⊥) → (r.state ≡ s) × (lane' ≡ lane)
   slice-not-taken id num i bs small lane lane' r g n =
       let k = slice_kept (slice_spot s id num i (length bs) (length small) (length lane)) id num i bs lane (λ e. n (g.answer ∙ e)) in
       (g.state ∙ k.0, g.bytes ∙ k.1)
 
 -- ---- "A repeat is checked for size, then accepted without effect": no part of the state and no byte changes, whatever bytes it has
 
-module _ (s : ReceiveChannelReliable) (v : Valid s) (id num i : ℕ) (bs small lane lane' : List ℕ) (r : SliceArrived) (g : SliceGives s id num i bs small lane lane' r)
+module _ (s : ReceiveChannelReliable) (v : Valid s) (id num i : ℕ) (bs small lane lane' : List ℕ) (r : Arrived) (g : SliceGives s id num i bs small lane lane' r)
     (stores : stores_hold_of s.settings (length small) (length lane) ≡ true) where
   -- of a message that is whole or was taken, whatever size it has
-  pub repeat-ignored : id < LIMIT → ignores s id ≡ true → (r.answer ≡ slice.Ignored) × (r.state ≡ s) × (lane' ≡ lane)
+  pub repeat-ignored : id < LIMIT → ignores s id ≡ true → (r.answer ≡ arrival.Ignored) × (r.state ≡ s) × (lane' ≡ lane)
   unfolding slice_spot entry_refusal
   repeat-ignored below old =
       let e : slice_spot s id num i (length bs) (length small) (length lane) ≡ nothing ignored = rw (stores, lt-leb _ _ below, old) in
-      (same-slice r.answer slice.Ignored (g.answer ∙ ap slice_answer_of e) (rw e at g.report), rw e at g.state, rw e at g.bytes)
+      (same-arrival r.answer arrival.Ignored (g.answer ∙ ap slice_answer_of e), rw e at g.state, rw e at g.bytes)
 
   -- of a message that is open
   module _ (p : Repeats s id num i) where
@@ -240,22 +215,20 @@ module _ (s : ReceiveChannelReliable) (v : Valid s) (id num i : ℕ) (bs small l
           set-get_or s.constructors l (c.blank_of 0 0),
         )
 
-    -- of the right size: as many are missing as before
-    pub repeat-accepted : c.sized (constructor_at s (lane_of s id)) i (length bs) ≡ true
-        → (r.answer ≡ slice.Taken (c.missing (constructor_at s (lane_of s id)))) × (r.state ≡ s) × (lane' ≡ lane)
+    -- of the right size
+    pub repeat-accepted : c.sized (constructor_at s (lane_of s id)) i (length bs) ≡ true → (r.answer ≡ arrival.Taken) × (r.state ≡ s) × (lane' ≡ lane)
     repeat-accepted size =
         let l : ℕ = lane_of s id in
         let f = (v.lane l low).constructor in
         let e : slice_spot s id num i (length bs) (length small) (length lane) ≡ opened l = spot ∙ rw (repeat-good (constructor_at s l) f i (length bs) (lane_len_of s.settings) room p.here size) in
         let unmoved : c.taken (constructor_at s l) i (length bs) ≡ constructor_at s l = repeat-same (constructor_at s l) f i (length bs) (lane_len_of s.settings) room p.here in (
-          same-slice r.answer (slice.Taken (c.missing (constructor_at s l))) (g.answer ∙ ap slice_answer_of e)
-              (rw e at g.report ∙ ap (λ (k : SliceConstructor). lacking (c.missing k)) unmoved),
+          same-arrival r.answer arrival.Taken (g.answer ∙ ap slice_answer_of e),
           rw e at g.state ∙ ap (with_lane_of s l id) unmoved ∙ same-lane,
           rw (e, p.here) at g.bytes,
         )
 
     -- of a wrong one
-    pub repeat-refused : c.sized (constructor_at s (lane_of s id)) i (length bs) ≡ false → (slice_outcome r.answer ≡ refused 8) × (r.state ≡ s) × (lane' ≡ lane)
+    pub repeat-refused : c.sized (constructor_at s (lane_of s id)) i (length bs) ≡ false → (arrival_of r.answer ≡ refused 8) × (r.state ≡ s) × (lane' ≡ lane)
     repeat-refused size =
         let l : ℕ = lane_of s id in
         let f = (v.lane l low).constructor in

@@ -10,15 +10,12 @@ use Rattle.channel.specs.Find.{held_at}
 use Rattle.channel.specs.declared.Settings.{Settings}
 use Rattle.slice_constructor.specs.declared.SliceConstructor.{SliceConstructor}
 use Rattle.slice_constructor.specs.Collect as c
-pub use Rattle.slice_constructor.specs.Collect.{is_whole, lane_charge, kept, Report, lacking, silent}
+pub use Rattle.slice_constructor.specs.Collect.{is_whole, lane_charge, kept}
 use Rattle.receive_reliable.specs.declared.ReceiveChannelReliable.{ReceiveChannelReliable}
 use Rattle.receive_reliable.specs.declared.Made.{Made}
 use Rattle.receive_reliable.specs.declared.Arrival.{Arrival}
 use Rattle.receive_reliable.specs.declared.Arrival.TheVariants as arrival
 use Rattle.receive_reliable.specs.declared.Arrived.{Arrived}
-use Rattle.receive_reliable.specs.declared.SliceArrival.{SliceArrival}
-use Rattle.receive_reliable.specs.declared.SliceArrival.TheVariants as slice
-use Rattle.receive_reliable.specs.declared.SliceArrived.{SliceArrived}
 use Rattle.receive_reliable.specs.declared.Store.{Store}
 use Rattle.receive_reliable.specs.declared.Store.TheVariants.{Small, Lanes}
 use Rattle.receive_reliable.specs.declared.Look.{Look}
@@ -80,24 +77,13 @@ arrival_of arrival.Taken = taken
 arrival_of arrival.Ignored = ignored
 arrival_of (arrival.Refused e) = refused (number_of e)
 
--- document 02, [7]: a piece that was taken is told how many are missing, and no other is told a count
-abbrev pub slice_outcome : SliceArrival → Outcome
-slice_outcome (slice.Taken n) = taken
-slice_outcome slice.Ignored = ignored
-slice_outcome (slice.Refused e) = refused (number_of e)
-
-abbrev pub report_of : SliceArrival → Report
-report_of (slice.Taken n) = lacking n
-report_of slice.Ignored = silent
-report_of (slice.Refused e) = silent
-
 -- what every arrival is judged by first, with stores of these lengths lent: 10, 13
 unfoldable pub entry_refusal : ReceiveChannelReliable → ℕ → ℕ → ℕ → ℕ
 entry_refusal s id small lane = refusal ((not (stores_hold_of s.settings small lane), 10) ∷ (leb LIMIT id, 13) ∷ [])
 
 -- e, where it is a refusal; else ignored or what follows
-abbrev pub unless_refused : {A : Type 0} → ℕ → (ℕ → A) → A → A
-unless_refused e f a = pick (eqb e 0) a (f e)
+abbrev pub judged : {A : Type 0} → ℕ → (ℕ → A) → A → A
+judged e f a = pick (eqb e 0) a (f e)
 
 -- ---- a small message: 10, 13, ignored, 12, 16, 7, 11
 
@@ -117,9 +103,9 @@ pub data MessageSpot : Type 0 where
 
 unfoldable pub message_spot : ReceiveChannelReliable → ℕ → ℕ → ℕ → ℕ → MessageSpot
 message_spot s id n small lane =
-    unless_refused (entry_refusal s id small lane) (λ e. nowhere (refused e))
+    judged (entry_refusal s id small lane) (λ e. nowhere (refused e))
     (pick (ignores s id) (nowhere ignored)
-    (unless_refused (message_refusal s id n) (λ e. nowhere (refused e))
+    (judged (message_refusal s id n) (λ e. nowhere (refused e))
     (cell (lowest_free_of s.cells s.settings.slots))))
 
 -- the state with a message of n bytes in cell i
@@ -176,7 +162,7 @@ constructor_at s l = get_or s.constructors l (c.blank_of 0 0)
 
 -- index and size, with the lane's own part of the store lent whole
 abbrev pub placed : ReceiveChannelReliable → SliceConstructor → ℕ → ℕ → SliceSpot → SliceSpot
-placed s k i n spot = unless_refused (c.collect_refusal k i n (lane_len_of s.settings)) (λ e. nothing (refused e)) spot
+placed s k i n spot = judged (c.collect_refusal k i n (lane_len_of s.settings)) (λ e. nothing (refused e)) spot
 
 unfoldable pub open_spot : ReceiveChannelReliable → ℕ → ℕ → ℕ → ℕ → SliceSpot
 open_spot s l num i n =
@@ -186,15 +172,15 @@ open_spot s l num i n =
 
 unfoldable pub fresh_spot : ReceiveChannelReliable → ℕ → ℕ → ℕ → ℕ → SliceSpot
 fresh_spot s id num i n =
-    unless_refused (fresh_refusal s num) (λ e. nothing (refused e))
+    judged (fresh_refusal s num) (λ e. nothing (refused e))
     (placed s (c.blank_of id num) i n (fresh (lowest_free_of s.lanes s.settings.lanes)))
 
 -- a piece of n bytes, index i of num, of message id
 unfoldable pub slice_spot : ReceiveChannelReliable → ℕ → ℕ → ℕ → ℕ → ℕ → ℕ → SliceSpot
 slice_spot s id num i n small lane =
-    unless_refused (entry_refusal s id small lane) (λ e. nothing (refused e))
+    judged (entry_refusal s id small lane) (λ e. nothing (refused e))
     (pick (ignores s id) (nothing ignored)
-    (unless_refused (count_refusal s num) (λ e. nothing (refused e))
+    (judged (count_refusal s num) (λ e. nothing (refused e))
     (pick (in_lane_of s id) (open_spot s (lane_of s id) num i n) (fresh_spot s id num i n))))
 
 -- lane l afterwards, with the constructor k: whole and as long as it is, or open and charged; when complete the charge becomes the
@@ -219,12 +205,6 @@ abbrev pub slice_answer_of : SliceSpot → Outcome
 slice_answer_of (opened l) = taken
 slice_answer_of (fresh l) = taken
 slice_answer_of (nothing o) = o
-
--- how many pieces of its message are missing then
-abbrev pub slice_report : ReceiveChannelReliable → ℕ → ℕ → ℕ → ℕ → SliceSpot → Report
-slice_report s id num i n (opened l) = lacking (c.missing (c.taken (constructor_at s l) i n))
-slice_report s id num i n (fresh l) = lacking (c.missing (c.taken (c.blank_of id num) i n))
-slice_report s id num i n (nothing o) = silent
 
 abbrev pub slice_state : ReceiveChannelReliable → ℕ → ℕ → ℕ → ℕ → SliceSpot → ReceiveChannelReliable
 slice_state s id num i n (opened l) = with_lane_of s l id (c.taken (constructor_at s l) i n)
@@ -370,9 +350,8 @@ pub record MessageGives (s : ReceiveChannelReliable) (id : ℕ) (bs small lane s
   pub bytes : small' ≡ message_bytes (message_spot s id (length bs) (length small) (length lane)) bs small
   pub valid : Valid r.state
 
-pub record SliceGives (s : ReceiveChannelReliable) (id num i : ℕ) (bs small lane lane' : List ℕ) (r : SliceArrived) : Type 0 where
-  pub answer : slice_outcome r.answer ≡ slice_answer_of (slice_spot s id num i (length bs) (length small) (length lane))
-  pub report : report_of r.answer ≡ slice_report s id num i (length bs) (slice_spot s id num i (length bs) (length small) (length lane))
+pub record SliceGives (s : ReceiveChannelReliable) (id num i : ℕ) (bs small lane lane' : List ℕ) (r : Arrived) : Type 0 where
+  pub answer : arrival_of r.answer ≡ slice_answer_of (slice_spot s id num i (length bs) (length small) (length lane))
   pub state : r.state ≡ slice_state s id num i (length bs) (slice_spot s id num i (length bs) (length small) (length lane))
   pub bytes : lane' ≡ slice_bytes s i bs (slice_spot s id num i (length bs) (length small) (length lane)) lane
   pub valid : Valid r.state

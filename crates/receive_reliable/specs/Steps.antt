@@ -6,7 +6,7 @@ use Rattle.words.specs.Lists.{lowest_free_of}
 use Rattle.channel.specs.Settings.{lane_len_of}
 use Rattle.slice_constructor.specs.declared.SliceConstructor.{SliceConstructor}
 use Rattle.slice_constructor.specs.Collect as c
-use Rattle.receive_reliable.specs.Receive.{cell_of, lane_of, in_lane_of, ignores, Outcome, taken, ignored, refused, arrival_of, unless_refused, entry_refusal, MessageSpot, cell, nowhere, SliceSpot, opened, fresh, nothing, count_refusal, fresh_refusal, constructor_at, Waiting, message}
+use Rattle.receive_reliable.specs.Receive.{cell_of, lane_of, in_lane_of, ignores, Outcome, taken, ignored, refused, arrival_of, judged, entry_refusal, MessageSpot, cell, nowhere, SliceSpot, opened, fresh, nothing, count_refusal, fresh_refusal, constructor_at, Waiting, message}
 use Rattle.receive_reliable.specs.declared.ReceiveChannelReliable.{ReceiveChannelReliable}
 use Rattle.receive_reliable.specs.declared.Arrival.{Arrival}
 use Rattle.receive_reliable.specs.declared.Store.{Store}
@@ -31,17 +31,17 @@ shown_at s Lanes l = message s.oldest_pending_message_id Lanes (l * lane_len_of 
 
 -- what every arrival is judged by first; `taken` goes on
 unfoldable pub entry_of : ReceiveChannelReliable → ℕ → ℕ → ℕ → Outcome
-entry_of s id small lane = unless_refused (entry_refusal s id small lane) refused (pick (ignores s id) ignored taken)
+entry_of s id small lane = judged (entry_refusal s id small lane) refused (pick (ignores s id) ignored taken)
 
 -- on to `a` where what arrives may be taken, else told as f says
-abbrev pub onward : {A : Type 0} → (Outcome → A) → A → Outcome → A
-onward f a taken = a
-onward f a ignored = f ignored
-onward f a (refused e) = f (refused e)
+abbrev pub told : {A : Type 0} → (Outcome → A) → A → Outcome → A
+told f a taken = a
+told f a ignored = f ignored
+told f a (refused e) = f (refused e)
 
 -- where a small message goes that is told so, with cell i free for it
 abbrev pub message_to : ℕ → Arrival → MessageSpot
-message_to i a = onward nowhere (cell i) (arrival_of a)
+message_to i a = told nowhere (cell i) (arrival_of a)
 
 -- the lane for a piece: its message's where that is open, else lane i, which is free
 abbrev pub lane_for_of : Held → ℕ → SliceSpot
@@ -54,20 +54,20 @@ slice_place_of p = pick p.fresh (fresh p.lane) (opened p.lane)
 
 -- where a piece goes that is told so, with this lane for it
 abbrev pub slice_to : SliceSpot → Arrival → SliceSpot
-slice_to lane a = onward nothing lane (arrival_of a)
+slice_to lane a = told nothing lane (arrival_of a)
 
 -- the lane for a piece, before its index and size are judged
 unfoldable pub open_lane : ReceiveChannelReliable → ℕ → ℕ → SliceSpot
 open_lane s l num = pick (eqb (constructor_at s l).num_slices num) (opened l) (nothing (refused 8))
 
 unfoldable pub fresh_lane : ReceiveChannelReliable → ℕ → SliceSpot
-fresh_lane s num = unless_refused (fresh_refusal s num) (λ e. nothing (refused e)) (fresh (lowest_free_of s.lanes s.settings.lanes))
+fresh_lane s num = judged (fresh_refusal s num) (λ e. nothing (refused e)) (fresh (lowest_free_of s.lanes s.settings.lanes))
 
 unfoldable pub lane_spot : ReceiveChannelReliable → ℕ → ℕ → ℕ → ℕ → SliceSpot
 lane_spot s id num small lane =
-    unless_refused (entry_refusal s id small lane) (λ e. nothing (refused e))
+    judged (entry_refusal s id small lane) (λ e. nothing (refused e))
     (pick (ignores s id) (nothing ignored)
-    (unless_refused (count_refusal s num) (λ e. nothing (refused e))
+    (judged (count_refusal s num) (λ e. nothing (refused e))
     (pick (in_lane_of s id) (open_lane s (lane_of s id) num) (fresh_lane s num))))
 
 -- k may go on in lane l, for message id

@@ -28,16 +28,13 @@ pub struct ReceiveChannelReliable {
     constructors: [SliceConstructor; LANES],
 }
 
-// A call that changes the state returns the answer beside it, in a struct named by a participle.
 #[derive(Drop)]
 pub struct Made {
     pub answer: Setup,
     pub state: ReceiveChannelReliable,
 }
 
-// What came of a message or a piece: it was taken; it is ignored, being old or held already; or it was
-// refused. What was taken is acknowledged, and so is what is ignored: it was taken before, and the word
-// of that may have been lost.
+// What came of a message or a piece: it was taken, it was old or held already, or it was refused.
 #[derive(Drop)]
 pub enum Arrival {
     Taken,
@@ -51,21 +48,6 @@ pub struct Arrived {
     pub state: ReceiveChannelReliable,
 }
 
-// What came of a piece: the same, and of one that was taken how many pieces of its message are still
-// missing, 0 once it is whole.
-#[derive(Drop)]
-pub enum SliceArrival {
-    Taken { missing: usize },
-    Ignored,
-    Refused(Refusal),
-}
-
-#[derive(Drop)]
-pub struct SliceArrived {
-    pub answer: SliceArrival,
-    pub state: ReceiveChannelReliable,
-}
-
 // Which of the two lent stores.
 #[derive(Drop)]
 pub enum Store {
@@ -76,12 +58,7 @@ pub enum Store {
 // The message that comes out next: its id, the store that holds it, its place there and its length.
 #[derive(Drop)]
 pub enum Look {
-    Message {
-        id: MessageId,
-        store: Store,
-        place: usize,
-        len: usize,
-    },
+    Message(MessageId, Store, usize, usize),
     Nothing,
     Refused(Refusal),
 }
@@ -96,7 +73,7 @@ pub struct Received {
 #[derive(Drop)]
 enum Held {
     At(Store, usize),
-    Open { lane: usize, charge: usize },
+    Open(usize, usize),
     Nothing,
 }
 
@@ -169,7 +146,7 @@ impl ReceiveChannelReliable {
         payload: &[u8],
         small: &[u8],
         lanes: &mut [u8],
-    ) -> SliceArrived
+    ) -> Arrived
         requires { Valid self }
         ensures { SliceGives self message_id.0 num_slices slice_index.0 payload.now small.now lanes.old lanes.new result }
     {
@@ -184,22 +161,13 @@ impl ReceiveChannelReliable {
             id,
         );
         let free = words::lowest_free(&self.lanes, self.settings.lanes);
-        let judged = self.slice_answer(held, free, id, num_slices, small.len(), lanes.len());
-        match judged {
-            Arrival::Taken => {}
-            Arrival::Ignored => {
-                return SliceArrived {
-                    answer: SliceArrival::Ignored,
-                    state: self,
-                };
-            }
-            Arrival::Refused(e) => {
-                return SliceArrived {
-                    answer: SliceArrival::Refused(e),
-                    state: self,
-                };
-            }
-        }
+        let answer = self.slice_answer(held, free, id, num_slices, small.len(), lanes.len());
+        let Arrival::Taken = answer else {
+            return Arrived {
+                answer,
+                state: self,
+            };
+        };
         let place = lane_for(held, free);
         let l = place.lane;
         let stored = self.constructors[l];
@@ -210,8 +178,8 @@ impl ReceiveChannelReliable {
         let collected = constructor.process_slice(slice_index, payload, &mut lanes[start..end]);
         let answer = collected.answer;
         if let Collect::Refused(e) = answer {
-            return SliceArrived {
-                answer: SliceArrival::Refused(e),
+            return Arrived {
+                answer: Arrival::Refused(e),
                 state: self,
             };
         }
@@ -224,9 +192,8 @@ impl ReceiveChannelReliable {
         self.lane_lens[l] = kept.len;
         let constructor = kept.constructor;
         self.constructors[l] = constructor;
-        let missing = collected.state.missing();
-        SliceArrived {
-            answer: SliceArrival::Taken { missing },
+        Arrived {
+            answer: Arrival::Taken,
             state: self,
         }
     }
@@ -254,22 +221,12 @@ impl ReceiveChannelReliable {
             match store {
                 Store::Small => {
                     let len = self.cell_lens[i] as usize;
-                    return Look::Message {
-                        id: MessageId(id),
-                        store: Store::Small,
-                        place: i * SLICE_SIZE,
-                        len,
-                    };
+                    return Look::Message(MessageId(id), Store::Small, i * SLICE_SIZE, len);
                 }
                 Store::Lanes => {
                     let len = self.lane_lens[i];
                     let size = self.settings.pieces * SLICE_SIZE;
-                    return Look::Message {
-                        id: MessageId(id),
-                        store: Store::Lanes,
-                        place: i * size,
-                        len,
-                    };
+                    return Look::Message(MessageId(id), Store::Lanes, i * size, len);
                 }
             }
         }
@@ -282,13 +239,7 @@ impl ReceiveChannelReliable {
         ensures { result.now ≡ part_at (look_at self (length small.now) (length lanes.now)) small.now lanes.now }
     {
         let look = self.look(small, lanes);
-        let Look::Message {
-            id: _,
-            store,
-            place,
-            len,
-        } = look
-        else {
+        let Look::Message(_, store, place, len) = look else {
             return &small[..0];
         };
         match store {
@@ -322,12 +273,7 @@ impl ReceiveChannelReliable {
         match store {
             Store::Small => {
                 let len = self.cell_lens[i] as usize;
-                let answer = Look::Message {
-                    id: MessageId(oldest),
-                    store: Store::Small,
-                    place: i * SLICE_SIZE,
-                    len,
-                };
+                let answer = Look::Message(MessageId(oldest), Store::Small, i * SLICE_SIZE, len);
                 self.memory_usage_bytes -= len;
                 self.cells[i] = false;
                 self.cell_ids[i] = 0;
@@ -340,12 +286,7 @@ impl ReceiveChannelReliable {
             Store::Lanes => {
                 let len = self.lane_lens[i];
                 let size = self.settings.pieces * SLICE_SIZE;
-                let answer = Look::Message {
-                    id: MessageId(oldest),
-                    store: Store::Lanes,
-                    place: i * size,
-                    len,
-                };
+                let answer = Look::Message(MessageId(oldest), Store::Lanes, i * size, len);
                 self.memory_usage_bytes -= len;
                 self.lanes[i] = false;
                 self.whole[i] = false;
@@ -400,9 +341,9 @@ impl ReceiveChannelReliable {
             if id < self.oldest_pending_message_id {
                 return Arrival::Ignored;
             }
-            let (Held::Open { .. } | Held::Nothing) = held else {
+            if let Held::At(_, _) = held {
                 return Arrival::Ignored;
-            };
+            }
             return Arrival::Taken;
         }
         Arrival::Refused(Refusal::BadStore)
@@ -428,7 +369,7 @@ impl ReceiveChannelReliable {
         if SLICE_SIZE < n {
             return Arrival::Refused(Refusal::TooLong);
         }
-        if let Held::Open { .. } = held {
+        if let Held::Open(_, _) = held {
             return Arrival::Refused(Refusal::WrongKind);
         }
         if self.settings.max_memory_usage_bytes < self.memory_usage_bytes + n {
@@ -464,18 +405,18 @@ impl ReceiveChannelReliable {
             return Arrival::Refused(Refusal::TooLong);
         }
         let num = num_slices as usize;
-        let Held::Open { lane: _, charge } = held else {
-            return self.judge_new(free, num);
-        };
-        // an open lane's charge tells how many pieces its message has
-        if charge == SLICE_SIZE * num {
-            return Arrival::Taken;
+        if let Held::Open(_, charge) = held {
+            // an open lane's charge tells how many pieces its message has
+            if charge == SLICE_SIZE * num {
+                return Arrival::Taken;
+            }
+            return Arrival::Refused(Refusal::InvalidSliceMessage);
         }
-        Arrival::Refused(Refusal::InvalidSliceMessage)
+        self.fresh(free, num)
     }
 
     // What a message with so many pieces is told that would open the lane `free`.
-    fn judge_new(self, free: usize, num_slices: usize) -> Arrival
+    fn fresh(self, free: usize, num_slices: usize) -> Arrival
         requires { Valid self × (free ≡ lowest_free_of self.lanes self.settings.lanes) × (num_slices ≤ self.settings.pieces) }
         ensures { slice_to (fresh free) result ≡ fresh_lane self num_slices }
     {
@@ -495,13 +436,16 @@ impl ReceiveChannelReliable {
 fn lane_for(held: Held, free: usize) -> SlicePlace
     ensures { slice_place_of result ≡ lane_for_of held free }
 {
-    let Held::Open { lane, charge: _ } = held else {
+    if let Held::Open(l, _) = held {
         return SlicePlace {
-            lane: free,
-            fresh: true,
+            lane: l,
+            fresh: false,
         };
-    };
-    SlicePlace { lane, fresh: false }
+    }
+    SlicePlace {
+        lane: free,
+        fresh: true,
+    }
 }
 
 // Where the message with an id is, by the columns of the two tables.
@@ -528,6 +472,5 @@ fn locate<'a>(
     if done {
         return Held::At(Store::Lanes, lane);
     }
-    let charge = lane_lens[lane];
-    Held::Open { lane, charge }
+    Held::Open(lane, lane_lens[lane])
 }

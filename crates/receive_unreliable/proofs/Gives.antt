@@ -28,13 +28,11 @@ use Rattle.slice_constructor.specs.Collect as c
 use Rattle.slice_constructor.specs.contracts.Collect as Collect'
 use Rattle.slice_constructor.proofs.Valid as cv
 use Rattle.slice_constructor.proofs.Part.{piece-refused, piece-good, taken-now, store-back}
-use Rattle.receive_unreliable.specs.Receive.{new_of, MadeGives, constructor_at, Place, at-cell, at-lane, no_place, next_place, Outcome, refused, arrival_of, MessageSpot, cell, nowhere, message_spot, with_message_of, MessageGives, SliceSpot, opened, fresh, nothing, lane_spot, piece_refusal, slice_spot, unless_refused, with_piece, SliceGives, walk_state, walk_count, at_time, discard_answer, discard_state, DiscardGives, Waiting, message, refusing, shown_at, look_of, look_at, part_at, without_cell, without_lane, TakeGives, Valid, dropped, lacking, silent, slice_outcome, report_of}
-use Rattle.receive_unreliable.specs.Steps.{held_of, onward, message_to, slice_place_of, slice_to, Fits}
+use Rattle.receive_unreliable.specs.Receive.{new_of, MadeGives, constructor_at, Place, at-cell, at-lane, no_place, next_place, Outcome, refused, arrival_of, MessageSpot, cell, nowhere, message_spot, with_message_of, MessageGives, SliceSpot, opened, fresh, nothing, lane_spot, piece_refusal, slice_spot, judged, with_piece, SliceGives, walk_state, walk_count, at_time, discard_answer, discard_state, DiscardGives, Waiting, message, refusing, shown_at, look_of, look_at, part_at, without_cell, without_lane, TakeGives, Valid}
+use Rattle.receive_unreliable.specs.Steps.{held_of, told, message_to, slice_place_of, slice_to, Fits}
 use Rattle.receive_unreliable.specs.declared.ReceiveChannelUnreliable.{ReceiveChannelUnreliable}
 use Rattle.receive_unreliable.specs.declared.Arrival.{Arrival}
 use Rattle.receive_unreliable.specs.declared.Arrival.TheVariants as arrival
-use Rattle.receive_unreliable.specs.declared.SliceArrival.{SliceArrival}
-use Rattle.receive_unreliable.specs.declared.SliceArrival.TheVariants as slice
 use Rattle.receive_unreliable.specs.contracts.Arrival as Arrival'
 use Rattle.receive_unreliable.specs.declared.SlicePlace.{SlicePlace}
 use Rattle.receive_unreliable.specs.declared.Discard.TheVariants as discard
@@ -55,7 +53,7 @@ made s d t g et = record { number = g.number; state = et ∙ ap new_of g.setting
 
 -- ---- what a place says
 
-not_taken : {A : Type 0} (f : Outcome → A) (x : A) (a : Arrival) → OneOf (1 ∷ 2 ∷ []) (tag_of Arrival'.the_type a) → onward f x (arrival_of a) ≡ f (arrival_of a)
+not_taken : {A : Type 0} (f : Outcome → A) (x : A) (a : Arrival) → OneOf (1 ∷ 2 ∷ []) (tag_of Arrival'.the_type a) → told f x (arrival_of a) ≡ f (arrival_of a)
 not_taken f x arrival.Taken k = ⊎_elim (λ e. absurd (omega arith)) (λ e. absurd (omega arith)) k
 not_taken f x arrival.Dropped k = refl
 not_taken f x (arrival.Refused e) k = refl
@@ -102,18 +100,12 @@ fits-taken s l k t f i n e =
     }
 
 module _ (s : ReceiveChannelUnreliable) (v : Valid s) (id num i : ℕ) (bs : List ℕ) (t : ℕ) (small lane : List ℕ) where
-  slice-left : (o : Outcome) (a : SliceArrival) → lane_spot s id num t (length small) (length lane) ≡ nothing o → slice_outcome a ≡ o → report_of a ≡ silent
-      → SliceGives s id num i bs t small lane lane (record { answer = a; state = s })
+  pub slice-left : (x : SliceSpot) (a : Arrival) → slice_to x a ≡ lane_spot s id num t (length small) (length lane)
+      → OneOf (1 ∷ 2 ∷ []) (tag_of Arrival'.the_type a) → SliceGives s id num i bs t small lane lane (record { answer = a; state = s })
   unfolding slice_spot
-  slice-left o a e ea er = record { answer = rw e ea; report = rw e er; state = rw e; bytes = rw e; valid = v }
-
-  pub slice-dropped : (x : SliceSpot) (a : Arrival) → slice_to x a ≡ lane_spot s id num t (length small) (length lane) → a ≡ arrival.Dropped
-      → SliceGives s id num i bs t small lane lane (record { answer = slice.Dropped; state = s })
-  slice-dropped x a h k = slice-left dropped slice.Dropped (sym h ∙ ap (slice_to x) k) refl refl
-
-  pub slice-stopped : (x : SliceSpot) (a : Arrival) (e : Refusal) → slice_to x a ≡ lane_spot s id num t (length small) (length lane) → a ≡ arrival.Refused e
-      → SliceGives s id num i bs t small lane lane (record { answer = slice.Refused e; state = s })
-  slice-stopped x a e h k = slice-left (refused (number_of e)) (slice.Refused e) (sym h ∙ ap (slice_to x) k) refl refl
+  slice-left x a h k =
+      let e = sym h ∙ not_taken nothing x a k in
+      record { answer = rw e; state = rw e; bytes = rw e; valid = v }
 
   -- lane l, which is fresh or not, and the constructor that the piece goes to
   lane-fits : (l : ℕ) (b : Bool) → lane_spot s id num t (length small) (length lane) ≡ pick b (fresh l) (opened l)
@@ -123,7 +115,7 @@ module _ (s : ReceiveChannelUnreliable) (v : Valid s) (id num i : ℕ) (bs : Lis
 
   lane-spot : (l : ℕ) (b : Bool) → lane_spot s id num t (length small) (length lane) ≡ pick b (fresh l) (opened l)
       → slice_spot s id num i (length bs) t (length small) (length lane)
-      ≡ unless_refused (piece_refusal s (c.start_of (constructor_at s l) b id num) i (length bs)) (λ e. nothing (refused e)) (pick b (fresh l) (opened l))
+      ≡ judged (piece_refusal s (c.start_of (constructor_at s l) b id num) i (length bs)) (λ e. nothing (refused e)) (pick b (fresh l) (opened l))
   unfolding slice_spot
   lane-spot l true h = rw h
   lane-spot l false h = rw h
@@ -133,19 +125,10 @@ module _ (s : ReceiveChannelUnreliable) (v : Valid s) (id num i : ℕ) (bs : Lis
       → slice_spot s id num i (length bs) t (length small) (length lane) ≡ pick b (fresh l) (opened l) → (u : ReceiveChannelUnreliable) → Valid u
       → u ≡ with_piece s l (c.taken k i (length bs)) t → (lane' : List ℕ)
       → lane' ≡ pick (get_or k.received i false) lane (splice (l * lane_len_of s.settings + i * SLICE_SIZE) bs lane)
-      → (m : ℕ) → m ≡ c.missing (c.taken k i (length bs))
-      → SliceGives s id num i bs t small lane lane' (record { answer = slice.Taken m; state = u })
+      → SliceGives s id num i bs t small lane lane' (record { answer = arrival.Taken; state = u })
   unfolding c.blank_of
-  good-in-lane l true k ek e u w eu lane' eb m em =
-      record {
-        answer = rw e;
-        report = rw e (ap lacking (rw ek at em));
-        state = rw e (rw ek at eu);
-        bytes = rw e (rw (ek, none-held PIECES i) at eb);
-        valid = w;
-      }
-  good-in-lane l false k ek e u w eu lane' eb m em =
-      record { answer = rw e; report = rw e (ap lacking (rw ek at em)); state = rw e (rw ek at eu); bytes = rw e (rw ek at eb); valid = w }
+  good-in-lane l true k ek e u w eu lane' eb = record { answer = rw e; state = rw e (rw ek at eu); bytes = rw e (rw (ek, none-held PIECES i) at eb); valid = w }
+  good-in-lane l false k ek e u w eu lane' eb = record { answer = rw e; state = rw e (rw ek at eu); bytes = rw e (rw ek at eb); valid = w }
 
 -- the piece goes to lane l, which is fresh or not
 pub record InLane (s : ReceiveChannelUnreliable) (id num i : ℕ) (bs : List ℕ) (t : ℕ) (small lane : List ℕ) (l : ℕ) (b : Bool) : Type 0 where
@@ -190,12 +173,12 @@ module _ {s : ReceiveChannelUnreliable} {id num i : ℕ} {bs : List ℕ} {t : �
       stored : back ≡ pick (eqb (piece_refusal s k i (length bs)) 0) (pick (get_or k.received i false) lane (splice (l * lane_len_of s.settings + i * SLICE_SIZE) bs lane)) lane
       stored = rw told-so at (store-back k i bs lane (l * lane_len_of s.settings) m room part r g)
 
-      pub slice-refused : (e : Refusal) → r.answer ≡ collect.Refused e → SliceGives s id num i bs t small lane back (record { answer = slice.Refused e; state = s })
+      pub slice-refused : (e : Refusal) → r.answer ≡ collect.Refused e → SliceGives s id num i bs t small lane back (record { answer = arrival.Refused e; state = s })
       slice-refused e he =
           let w = rw told-so at (piece-refused k i bs lane (l * lane_len_of s.settings) m room part r g e he) in
           let spot : slice_spot s id num i (length bs) t (length small) (length lane) ≡ nothing (refused (number_of e)) =
           lane-spot s x.valid id num i bs t small lane l b x.spot ∙ rw (← started, w.0, w.1) in
-          record { answer = rw spot; report = rw spot; state = rw spot; bytes = rw spot (rw w.0 at stored); valid = x.valid }
+          record { answer = rw spot; state = rw spot; bytes = rw spot (rw w.0 at stored); valid = x.valid }
 
       module _ (w : OneOf (0 ∷ 1 ∷ []) (tag_of Collect'.the_type r.answer)) where
         fine : eqb (piece_refusal s k i (length bs)) 0 ≡ true
@@ -207,13 +190,12 @@ module _ {s : ReceiveChannelUnreliable} {id num i : ℕ} {bs : List ℕ} {t : �
         pub taken-fits : Fits s l r.state t
         taken-fits = rw now-taken (fits-taken s l k t start_fits i (length bs) fine)
 
-        pub slice_taken : (u : ReceiveChannelUnreliable) → u ≡ with_piece s l r.state t → (n : ℕ) → n ≡ c.missing r.state
-            → SliceGives s id num i bs t small lane back (record { answer = slice.Taken n; state = u })
-        slice_taken u eu n en =
+        pub slice_taken : (u : ReceiveChannelUnreliable) → u ≡ with_piece s l r.state t → SliceGives s id num i bs t small lane back (record { answer = arrival.Taken; state = u })
+        slice_taken u eu =
             let spot : slice_spot s id num i (length bs) t (length small) (length lane) ≡ pick b (fresh l) (opened l) =
             lane-spot s x.valid id num i bs t small lane l b x.spot ∙ rw (← started, fine) in
             good-in-lane s x.valid id num i bs t small lane l b k started spot u (rw eu (piece-valid s x.valid l r.state t taken-fits))
-            (eu ∙ ap (λ (y : SliceConstructor). with_piece s l y t) now-taken) back (rw fine at stored) n (en ∙ ap c.missing now-taken)
+            (eu ∙ ap (λ (y : SliceConstructor). with_piece s l y t) now-taken) back (rw fine at stored)
 
 -- ---- a discarding
 
@@ -223,7 +205,7 @@ module _ (s : ReceiveChannelUnreliable) (v : Valid s) (t : ℕ) where
   discard-refused h = record { answer = rw (lt-ltb _ _ h); state = rw (lt-ltb _ _ h); valid = v }
 
   pub discard-done : s.latest ≤ t → (u : ReceiveChannelUnreliable) (n : ℕ) → u ≡ walk_state LANES t (at_time s t) → n ≡ walk_count LANES t (at_time s t)
-      → DiscardGives s t (record { answer = discard.Done n; state = u })
+      → DiscardGives s t (record { answer = discard.Discarded n; state = u })
   unfolding discard_answer discard_state
   discard-done h u n eu en =
       record {

@@ -24,7 +24,7 @@ use Rattle.slice_constructor.specs.declared.SliceConstructor.{SliceConstructor}
 use Rattle.slice_constructor.specs.Collect as c
 use Rattle.slice_constructor.proofs.Valid as cv
 use Rattle.slice_constructor.proofs.Part.{repeat-good, repeat-bad, repeat-same}
-use Rattle.receive_unreliable.specs.Receive.{DISCARD_AFTER, new_of, lane_of, constructor_at, Place, at-cell, at-lane, no_place, next_place, Outcome, taken, dropped, refused, Report, lacking, silent, slice_outcome, report_of, arrival_of, MessageSpot, cell, nowhere, message_spot, message_answer_of, message_state, message_bytes, SliceSpot, opened, fresh, nothing, lane_spot, piece_refusal, settled, open_lane, fresh_lane, entry_refusal, slice_spot, with_open, with_piece, slice_answer_of, slice_state, slice_bytes, lowest_id_of, goes_on_of, without_open, walk_count, at_time, Discarding, gone, kept, discard_of, discard_answer, discard_state, Waiting, message, none-waiting, refusing, shown_at, look_of, look_at, part_at, removed, MadeGives, MessageGives, SliceGives, DiscardGives, TakeGives, Valid}
+use Rattle.receive_unreliable.specs.Receive.{DISCARD_AFTER, new_of, lane_of, constructor_at, Place, at-cell, at-lane, no_place, next_place, Outcome, taken, dropped, refused, arrival_of, MessageSpot, cell, nowhere, message_spot, message_answer_of, message_state, message_bytes, SliceSpot, opened, fresh, nothing, lane_spot, piece_refusal, settled, open_lane, fresh_lane, entry_refusal, slice_spot, with_open, with_piece, slice_answer_of, slice_state, slice_bytes, lowest_id_of, goes_on_of, without_open, walk_count, at_time, Discarding, gone, kept, discard_of, discard_answer, discard_state, Waiting, message, none-waiting, refusing, shown_at, look_of, look_at, part_at, removed, MadeGives, MessageGives, SliceGives, DiscardGives, TakeGives, Valid}
 use Rattle.receive_unreliable.specs.Repeats.{Repeats, renewed}
 use Rattle.receive_unreliable.specs.Views.{cell_use, lane_use, messages, after_message_of, after_slice}
 use Rattle.receive_unreliable.specs.declared.ReceiveChannelUnreliable.{ReceiveChannelUnreliable}
@@ -32,9 +32,6 @@ use Rattle.receive_unreliable.specs.declared.Made.{Made}
 use Rattle.receive_unreliable.specs.declared.Arrival.{Arrival}
 use Rattle.receive_unreliable.specs.declared.Arrival.TheVariants as arrival
 use Rattle.receive_unreliable.specs.declared.Arrived.{Arrived}
-use Rattle.receive_unreliable.specs.declared.SliceArrival.{SliceArrival}
-use Rattle.receive_unreliable.specs.declared.SliceArrival.TheVariants as slice
-use Rattle.receive_unreliable.specs.declared.SliceArrived.{SliceArrived}
 use Rattle.receive_unreliable.specs.declared.Discard.{Discard}
 use Rattle.receive_unreliable.specs.declared.Discard.TheVariants as discard
 use Rattle.receive_unreliable.specs.declared.Discarded.{Discarded}
@@ -85,11 +82,11 @@ same-arrival : (a b : Arrival) → arrival_of a ≡ arrival_of b → a ≡ b
 same-arrival = told-apart arrival_of arrival_from arrival-undone
 
 abbrev discard_from : Discarding → Discard
-discard_from (gone n) = discard.Done n
+discard_from (gone n) = discard.Discarded n
 discard_from (kept n) = discard.Refused (refusal_of n)
 
 discard-undone : (a : Discard) → discard_from (discard_of a) ≡ a
-discard-undone (discard.Done n) = refl
+discard-undone (discard.Discarded n) = refl
 discard-undone (discard.Refused e) = ap discard.Refused (refusal-undone e)
 
 abbrev look_from : Waiting → Look
@@ -121,31 +118,10 @@ pub one-message : (s : ReceiveChannelUnreliable) (bs small lane small₁ small�
 one-message s bs small lane small₁ small₂ r q x y =
     (one-arrived r q (x.answer ∙ sym y.answer) (x.state ∙ sym y.state), x.bytes ∙ sym y.bytes)
 
-abbrev slice_from : Outcome → Report → SliceArrival
-slice_from taken (lacking n) = slice.Taken n
-slice_from taken silent = slice.Taken 0
-slice_from dropped (lacking n) = slice.Dropped
-slice_from dropped silent = slice.Dropped
-slice_from (refused e) (lacking n) = slice.Refused (refusal_of e)
-slice_from (refused e) silent = slice.Refused (refusal_of e)
-
-slice-undone : (a : SliceArrival) → slice_from (slice_outcome a) (report_of a) ≡ a
-slice-undone (slice.Taken n) = refl
-slice-undone slice.Dropped = refl
-slice-undone (slice.Refused e) = ap slice.Refused (refusal-undone e)
-
-same-slice : (a b : SliceArrival) → slice_outcome a ≡ slice_outcome b → report_of a ≡ report_of b → a ≡ b
-same-slice a b e f =
-    sym (slice-undone a) ∙ ap (λ (o : Outcome). slice_from o (report_of a)) e ∙ ap (λ (n : Report). slice_from (slice_outcome b) n) f ∙ slice-undone b
-
-pub one-slice : (s : ReceiveChannelUnreliable) (id num i : ℕ) (bs : List ℕ) (t : ℕ) (small lane lane₁ lane₂ : List ℕ) (r q : SliceArrived)
+pub one-slice : (s : ReceiveChannelUnreliable) (id num i : ℕ) (bs : List ℕ) (t : ℕ) (small lane lane₁ lane₂ : List ℕ) (r q : Arrived)
     → SliceGives s id num i bs t small lane lane₁ r → SliceGives s id num i bs t small lane lane₂ q → (r ≡ q) × (lane₁ ≡ lane₂)
 one-slice s id num i bs t small lane lane₁ lane₂ r q x y =
-    let a = same-slice r.answer q.answer (x.answer ∙ sym y.answer) (x.report ∙ sym y.report) in (
-      ap (λ (b : SliceArrival). record { answer = b; state = r.state }) a
-          ∙ ap (λ (u : ReceiveChannelUnreliable). record { answer = q.answer; state = u }) (x.state ∙ sym y.state),
-      x.bytes ∙ sym y.bytes,
-    )
+    (one-arrived r q (x.answer ∙ sym y.answer) (x.state ∙ sym y.state), x.bytes ∙ sym y.bytes)
 
 pub one-discard : (s : ReceiveChannelUnreliable) (t : ℕ) (r q : Discarded) → DiscardGives s t r → DiscardGives s t q → r ≡ q
 one-discard s t r q x y =
@@ -187,8 +163,8 @@ module _ (s : ReceiveChannelUnreliable) where
   slice_kept (fresh l) id num i bs t lane n = absurd (n refl)
   slice_kept (nothing o) id num i bs t lane n = (refl, refl)
 
-  pub slice-not-taken : (id num i : ℕ) (bs : List ℕ) (t : ℕ) (small lane lane' : List ℕ) (r : SliceArrived) → SliceGives s id num i bs t small lane lane' r
-      → (slice_outcome r.answer ≡ taken → ⊥) → (r.state ≡ s) × (lane' ≡ lane)
+  pub slice-not-taken : (id num i : ℕ) (bs : List ℕ) (t : ℕ) (small lane lane' : List ℕ) (r : Arrived) → SliceGives s id num i bs t small lane lane' r
+      → (arrival_of r.answer ≡ taken → ⊥) → (r.state ≡ s) × (lane' ≡ lane)
   slice-not-taken id num i bs t small lane lane' r g n =
       let k = slice_kept (slice_spot s id num i (length bs) t (length small) (length lane)) id num i bs t lane (λ e. n (g.answer ∙ e)) in
       (g.state ∙ k.0, g.bytes ∙ k.1)
@@ -297,7 +273,7 @@ module _ (s : ReceiveChannelUnreliable) (v : Valid s) (id num i : ℕ) (bs : Lis
       (λ y. rw y)
   at-lane-spot (nothing o) e = refl
 
-  pub slice-in-order : (lane' : List ℕ) (r : SliceArrived) → SliceGives s id num i bs t small lane lane' r
+  pub slice-in-order : (lane' : List ℕ) (r : Arrived) → SliceGives s id num i bs t small lane lane' r
       → messages r.state small lane' ≡ after_slice s id num i (length bs) small lane lane' (slice_spot s id num i (length bs) t (length small) (length lane))
   unfolding slice_spot
   slice-in-order lane' r g = rw (g.state, g.bytes) (at-lane-spot (lane_spot s id num t (length small) (length lane)) refl)
@@ -345,7 +321,7 @@ discard-ends s v t n r g h =
 -- ---- "A repeat is checked for size, then accepted without effect, but an unreliable one renews its id's time": no byte changes, whatever
 -- bytes it has, and of the state that time and the latest accepted one alone
 
-module _ (s : ReceiveChannelUnreliable) (v : Valid s) (id num i : ℕ) (bs : List ℕ) (t : ℕ) (small lane lane' : List ℕ) (r : SliceArrived)
+module _ (s : ReceiveChannelUnreliable) (v : Valid s) (id num i : ℕ) (bs : List ℕ) (t : ℕ) (small lane lane' : List ℕ) (r : Arrived)
     (g : SliceGives s id num i bs t small lane lane' r) (stores : stores_hold_of s.settings (length small) (length lane) ≡ true) (later : s.latest ≤ t)
     (p : Repeats s id num i) where
   low : lane_of s id < LANES
@@ -383,9 +359,8 @@ module _ (s : ReceiveChannelUnreliable) (v : Valid s) (id num i : ℕ) (bs : Lis
         set-get_or s.constructors l (c.blank_of 0 0),
       )
 
-  -- of the right size: as many are missing as before
-  pub repeat-accepted : c.sized (constructor_at s (lane_of s id)) i (length bs) ≡ true
-      → (r.answer ≡ slice.Taken (c.missing (constructor_at s (lane_of s id)))) × (r.state ≡ renewed s (lane_of s id) t) × (lane' ≡ lane)
+  -- of the right size
+  pub repeat-accepted : c.sized (constructor_at s (lane_of s id)) i (length bs) ≡ true → (r.answer ≡ arrival.Taken) × (r.state ≡ renewed s (lane_of s id) t) × (lane' ≡ lane)
   unfolding slice_spot
   repeat-accepted size =
       let l : ℕ = lane_of s id in
@@ -393,14 +368,13 @@ module _ (s : ReceiveChannelUnreliable) (v : Valid s) (id num i : ℕ) (bs : Lis
       let e : slice_spot s id num i (length bs) t (length small) (length lane) ≡ opened l =
       ap (settled s id num i (length bs)) spot ∙ rw (repeat-good (constructor_at s l) f i (length bs) (lane_len_of s.settings) room p.here size) in
       let unmoved : c.taken (constructor_at s l) i (length bs) ≡ constructor_at s l = repeat-same (constructor_at s l) f i (length bs) (lane_len_of s.settings) room p.here in (
-        same-slice r.answer (slice.Taken (c.missing (constructor_at s l))) (g.answer ∙ ap slice_answer_of e)
-            (rw e at g.report ∙ ap (λ (k : SliceConstructor). lacking (c.missing k)) unmoved),
+        same-arrival r.answer arrival.Taken (g.answer ∙ ap slice_answer_of e),
         rw e at g.state ∙ ap (λ (k : SliceConstructor). with_piece s l k t) unmoved ∙ time-alone,
         rw (e, p.here) at g.bytes,
       )
 
   -- one of a wrong size renews no time
-  pub repeat-refused : c.sized (constructor_at s (lane_of s id)) i (length bs) ≡ false → (slice_outcome r.answer ≡ refused 8) × (r.state ≡ s) × (lane' ≡ lane)
+  pub repeat-refused : c.sized (constructor_at s (lane_of s id)) i (length bs) ≡ false → (arrival_of r.answer ≡ refused 8) × (r.state ≡ s) × (lane' ≡ lane)
   unfolding slice_spot
   repeat-refused size =
       let l : ℕ = lane_of s id in

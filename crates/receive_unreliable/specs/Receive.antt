@@ -10,15 +10,12 @@ use Rattle.channel.specs.Find.{held_at}
 use Rattle.channel.specs.declared.Settings.{Settings}
 use Rattle.slice_constructor.specs.declared.SliceConstructor.{SliceConstructor}
 use Rattle.slice_constructor.specs.Collect as c
-pub use Rattle.slice_constructor.specs.Collect.{is_whole, Report, lacking, silent}
+pub use Rattle.slice_constructor.specs.Collect.{is_whole}
 use Rattle.receive_unreliable.specs.declared.ReceiveChannelUnreliable.{ReceiveChannelUnreliable}
 use Rattle.receive_unreliable.specs.declared.Made.{Made}
 use Rattle.receive_unreliable.specs.declared.Arrival.{Arrival}
 use Rattle.receive_unreliable.specs.declared.Arrival.TheVariants as arrival
 use Rattle.receive_unreliable.specs.declared.Arrived.{Arrived}
-use Rattle.receive_unreliable.specs.declared.SliceArrival.{SliceArrival}
-use Rattle.receive_unreliable.specs.declared.SliceArrival.TheVariants as slice
-use Rattle.receive_unreliable.specs.declared.SliceArrived.{SliceArrived}
 use Rattle.receive_unreliable.specs.declared.Discard.{Discard}
 use Rattle.receive_unreliable.specs.declared.Discard.TheVariants as discard
 use Rattle.receive_unreliable.specs.declared.Discarded.{Discarded}
@@ -99,20 +96,9 @@ arrival_of arrival.Taken = taken
 arrival_of arrival.Dropped = dropped
 arrival_of (arrival.Refused e) = refused (number_of e)
 
--- document 02, [7]: a piece that was taken is told how many are missing, and no other is told a count
-abbrev pub slice_outcome : SliceArrival → Outcome
-slice_outcome (slice.Taken n) = taken
-slice_outcome slice.Dropped = dropped
-slice_outcome (slice.Refused e) = refused (number_of e)
-
-abbrev pub report_of : SliceArrival → Report
-report_of (slice.Taken n) = lacking n
-report_of slice.Dropped = silent
-report_of (slice.Refused e) = silent
-
 -- e, where it is a refusal; else what follows
-abbrev pub unless_refused : {A : Type 0} → ℕ → (ℕ → A) → A → A
-unless_refused e f a = pick (eqb e 0) a (f e)
+abbrev pub judged : {A : Type 0} → ℕ → (ℕ → A) → A → A
+judged e f a = pick (eqb e 0) a (f e)
 
 -- ---- a small message: 10, 12, Dropped, 11
 
@@ -126,7 +112,7 @@ pub data MessageSpot : Type 0 where
 
 unfoldable pub message_spot : ReceiveChannelUnreliable → ℕ → ℕ → ℕ → MessageSpot
 message_spot s n small lane =
-    unless_refused (message_refusal s n small lane) (λ e. nowhere (refused e))
+    judged (message_refusal s n small lane) (λ e. nowhere (refused e))
     (pick (ltb s.settings.max_memory_usage_bytes (s.memory_usage_bytes + n)) (nowhere dropped)
     (pick (leb s.settings.slots (lowest_free_of s.cells s.settings.slots)) (nowhere (refused 11))
     (cell (lowest_free_of s.cells s.settings.slots))))
@@ -194,7 +180,7 @@ fresh_lane s num =
 -- the lane for a piece of message id with num pieces, at time t
 unfoldable pub lane_spot : ReceiveChannelUnreliable → ℕ → ℕ → ℕ → ℕ → ℕ → SliceSpot
 lane_spot s id num t small lane =
-    unless_refused (entry_refusal s id num t small lane) (λ e. nothing (refused e))
+    judged (entry_refusal s id num t small lane) (λ e. nothing (refused e))
     (pick (is_open_of s id) (open_lane s (lane_of s id) num) (fresh_lane s num))
 
 -- the refusal of piece i of n bytes, with the lane's own part of the store lent whole
@@ -203,8 +189,8 @@ piece_refusal s k i n = c.collect_refusal k i n (lane_len_of s.settings)
 
 -- then index and size
 abbrev pub settled : ReceiveChannelUnreliable → ℕ → ℕ → ℕ → ℕ → SliceSpot → SliceSpot
-settled s id num i n (opened l) = unless_refused (piece_refusal s (constructor_at s l) i n) (λ e. nothing (refused e)) (opened l)
-settled s id num i n (fresh l) = unless_refused (piece_refusal s (c.blank_of id num) i n) (λ e. nothing (refused e)) (fresh l)
+settled s id num i n (opened l) = judged (piece_refusal s (constructor_at s l) i n) (λ e. nothing (refused e)) (opened l)
+settled s id num i n (fresh l) = judged (piece_refusal s (c.blank_of id num) i n) (λ e. nothing (refused e)) (fresh l)
 settled s id num i n (nothing o) = nothing o
 
 -- a piece of n bytes, index i of num, of message id, at time t
@@ -277,12 +263,6 @@ slice_answer_of (opened l) = taken
 slice_answer_of (fresh l) = taken
 slice_answer_of (nothing o) = o
 
--- how many pieces of its message are missing then
-abbrev pub slice_report : ReceiveChannelUnreliable → ℕ → ℕ → ℕ → ℕ → SliceSpot → Report
-slice_report s id num i n (opened l) = lacking (c.missing (c.taken (constructor_at s l) i n))
-slice_report s id num i n (fresh l) = lacking (c.missing (c.taken (c.blank_of id num) i n))
-slice_report s id num i n (nothing o) = silent
-
 abbrev pub slice_state : ReceiveChannelUnreliable → ℕ → ℕ → ℕ → ℕ → ℕ → SliceSpot → ReceiveChannelUnreliable
 slice_state s id num i n t (opened l) = with_piece s l (c.taken (constructor_at s l) i n) t
 slice_state s id num i n t (fresh l) = with_piece s l (c.taken (c.blank_of id num) i n) t
@@ -349,7 +329,7 @@ pub data Discarding : Type 0 where
   kept : ℕ → Discarding
 
 abbrev pub discard_of : Discard → Discarding
-discard_of (discard.Done n) = gone n
+discard_of (discard.Discarded n) = gone n
 discard_of (discard.Refused e) = kept (number_of e)
 
 unfoldable pub discard_answer : ReceiveChannelUnreliable → ℕ → Discarding
@@ -516,9 +496,8 @@ pub record MessageGives (s : ReceiveChannelUnreliable) (bs small lane small' : L
   pub bytes : small' ≡ message_bytes (message_spot s (length bs) (length small) (length lane)) bs small
   pub valid : Valid r.state
 
-pub record SliceGives (s : ReceiveChannelUnreliable) (id num i : ℕ) (bs : List ℕ) (t : ℕ) (small lane lane' : List ℕ) (r : SliceArrived) : Type 0 where
-  pub answer : slice_outcome r.answer ≡ slice_answer_of (slice_spot s id num i (length bs) t (length small) (length lane))
-  pub report : report_of r.answer ≡ slice_report s id num i (length bs) (slice_spot s id num i (length bs) t (length small) (length lane))
+pub record SliceGives (s : ReceiveChannelUnreliable) (id num i : ℕ) (bs : List ℕ) (t : ℕ) (small lane lane' : List ℕ) (r : Arrived) : Type 0 where
+  pub answer : arrival_of r.answer ≡ slice_answer_of (slice_spot s id num i (length bs) t (length small) (length lane))
   pub state : r.state ≡ slice_state s id num i (length bs) t (slice_spot s id num i (length bs) t (length small) (length lane))
   pub bytes : lane' ≡ slice_bytes s i bs (slice_spot s id num i (length bs) t (length small) (length lane)) lane
   pub valid : Valid r.state

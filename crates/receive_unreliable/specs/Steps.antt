@@ -28,14 +28,14 @@ abbrev pub opened_in : ReceiveChannelUnreliable → ℕ → Opened
 opened_in s id = opened_by s.opens s.lane_ids s.lane_lens id
 
 -- on to `a` where what arrives may be taken, else told as f says
-abbrev pub onward : {A : Type 0} → (Outcome → A) → A → Outcome → A
-onward f a taken = a
-onward f a dropped = f dropped
-onward f a (refused e) = f (refused e)
+abbrev pub told : {A : Type 0} → (Outcome → A) → A → Outcome → A
+told f a taken = a
+told f a dropped = f dropped
+told f a (refused e) = f (refused e)
 
 -- where a small message goes that is told so, with cell i free for it
 abbrev pub message_to : ℕ → Arrival → MessageSpot
-message_to i a = onward nowhere (cell i) (arrival_of a)
+message_to i a = told nowhere (cell i) (arrival_of a)
 
 -- the lane for a piece: its message's where that is open, else lane i, which is free
 abbrev pub lane_for_of : Opened → ℕ → SliceSpot
@@ -47,7 +47,7 @@ slice_place_of p = pick p.fresh (fresh p.lane) (opened p.lane)
 
 -- where a piece goes that is told so, with this lane for it
 abbrev pub slice_to : SliceSpot → Arrival → SliceSpot
-slice_to lane a = onward nothing lane (arrival_of a)
+slice_to lane a = told nothing lane (arrival_of a)
 
 -- k may go on in lane l at time t: the lane is open already, or free
 pub record Fits (s : ReceiveChannelUnreliable) (l : ℕ) (k : SliceConstructor) (t : ℕ) : Type 0 where

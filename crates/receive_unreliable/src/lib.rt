@@ -40,7 +40,6 @@ pub struct ReceiveChannelUnreliable {
     queue: [u8; ROWS],
 }
 
-// A call that changes the state returns the answer beside it, in a struct named by a participle.
 #[derive(Drop)]
 pub struct Made {
     pub answer: Setup,
@@ -61,25 +60,10 @@ pub struct Arrived {
     pub state: ReceiveChannelUnreliable,
 }
 
-// What came of a piece: the same, and of one that was taken how many pieces of its message are still
-// missing, 0 once it is whole.
-#[derive(Drop)]
-pub enum SliceArrival {
-    Taken { missing: usize },
-    Dropped,
-    Refused(Refusal),
-}
-
-#[derive(Drop)]
-pub struct SliceArrived {
-    pub answer: SliceArrival,
-    pub state: ReceiveChannelUnreliable,
-}
-
 // How many open messages were discarded.
 #[derive(Drop)]
 pub enum Discard {
-    Done(usize),
+    Discarded(usize),
     Refused(Refusal),
 }
 
@@ -99,11 +83,7 @@ pub enum Store {
 // The message that comes out next: the store that holds it, its place there and its length.
 #[derive(Drop)]
 pub enum Look {
-    Message {
-        store: Store,
-        place: usize,
-        len: usize,
-    },
+    Message(Store, usize, usize),
     Nothing,
     Refused(Refusal),
 }
@@ -124,7 +104,7 @@ enum Held {
 // The lane of an open message, with its charge.
 #[derive(Drop)]
 enum Opened {
-    At { lane: usize, charge: usize },
+    At(usize, usize),
     Nothing,
 }
 
@@ -186,14 +166,14 @@ impl ReceiveChannelUnreliable {
         current_time: u64,
         small: &[u8],
         lanes: &mut [u8],
-    ) -> SliceArrived
+    ) -> Arrived
         requires { Valid self }
         ensures { SliceGives self message_id.0 num_slices slice_index.0 payload.now current_time small.now lanes.old lanes.new result }
     {
         let id = message_id.0;
         let opened = locate(&self.opens, &self.lane_ids, &self.lane_lens, id);
         let free = words::lowest_free(&self.lanes, self.settings.lanes);
-        let judged = self.slice_answer(
+        let answer = self.slice_answer(
             opened,
             free,
             id,
@@ -202,21 +182,12 @@ impl ReceiveChannelUnreliable {
             small.len(),
             lanes.len(),
         );
-        match judged {
-            Arrival::Taken => {}
-            Arrival::Dropped => {
-                return SliceArrived {
-                    answer: SliceArrival::Dropped,
-                    state: self,
-                };
-            }
-            Arrival::Refused(e) => {
-                return SliceArrived {
-                    answer: SliceArrival::Refused(e),
-                    state: self,
-                };
-            }
-        }
+        let Arrival::Taken = answer else {
+            return Arrived {
+                answer,
+                state: self,
+            };
+        };
         let place = lane_for(opened, free);
         let l = place.lane;
         let stored = self.constructors[l];
@@ -227,15 +198,14 @@ impl ReceiveChannelUnreliable {
         let collected = constructor.process_slice(slice_index, payload, &mut lanes[start..end]);
         let answer = collected.answer;
         if let Collect::Refused(e) = answer {
-            return SliceArrived {
-                answer: SliceArrival::Refused(e),
+            return Arrived {
+                answer: Arrival::Refused(e),
                 state: self,
             };
         }
         let state = self.with_lane(l, collected.state, current_time);
-        let missing = collected.state.missing();
-        SliceArrived {
-            answer: SliceArrival::Taken { missing },
+        Arrived {
+            answer: Arrival::Taken,
             state,
         }
     }
@@ -276,7 +246,7 @@ impl ReceiveChannelUnreliable {
             dropped += 1;
         }
         Discarded {
-            answer: Discard::Done(dropped),
+            answer: Discard::Discarded(dropped),
             state: self,
         }
     }
@@ -295,20 +265,12 @@ impl ReceiveChannelUnreliable {
             match store {
                 Store::Small => {
                     let len = self.cell_lens[i] as usize;
-                    return Look::Message {
-                        store: Store::Small,
-                        place: i * SLICE_SIZE,
-                        len,
-                    };
+                    return Look::Message(Store::Small, i * SLICE_SIZE, len);
                 }
                 Store::Lanes => {
                     let len = self.lane_lens[i];
                     let size = self.settings.pieces * SLICE_SIZE;
-                    return Look::Message {
-                        store: Store::Lanes,
-                        place: i * size,
-                        len,
-                    };
+                    return Look::Message(Store::Lanes, i * size, len);
                 }
             }
         }
@@ -321,7 +283,7 @@ impl ReceiveChannelUnreliable {
         ensures { result.now ≡ part_at (look_at self (length small.now) (length lanes.now)) small.now lanes.now }
     {
         let look = self.look(small, lanes);
-        let Look::Message { store, place, len } = look else {
+        let Look::Message(store, place, len) = look else {
             return &small[..0];
         };
         match store {
@@ -348,11 +310,7 @@ impl ReceiveChannelUnreliable {
         match store {
             Store::Small => {
                 let len = self.cell_lens[i] as usize;
-                let answer = Look::Message {
-                    store: Store::Small,
-                    place: i * SLICE_SIZE,
-                    len,
-                };
+                let answer = Look::Message(Store::Small, i * SLICE_SIZE, len);
                 self.memory_usage_bytes -= len;
                 self.cells[i] = false;
                 self.cell_lens[i] = 0;
@@ -364,11 +322,7 @@ impl ReceiveChannelUnreliable {
             Store::Lanes => {
                 let len = self.lane_lens[i];
                 let size = self.settings.pieces * SLICE_SIZE;
-                let answer = Look::Message {
-                    store: Store::Lanes,
-                    place: i * size,
-                    len,
-                };
+                let answer = Look::Message(Store::Lanes, i * size, len);
                 self.memory_usage_bytes -= len;
                 self.lanes[i] = false;
                 self.lane_lens[i] = 0;
@@ -475,20 +429,20 @@ impl ReceiveChannelUnreliable {
                 return Arrival::Refused(Refusal::TooLong);
             }
             let num = num_slices as usize;
-            let Opened::At { lane: _, charge } = opened else {
-                return self.judge_new(free, num);
-            };
-            // an open lane's charge tells how many pieces its message has
-            if charge == SLICE_SIZE * num {
-                return Arrival::Taken;
+            if let Opened::At(_, charge) = opened {
+                // an open lane's charge tells how many pieces its message has
+                if charge == SLICE_SIZE * num {
+                    return Arrival::Taken;
+                }
+                return Arrival::Refused(Refusal::InvalidSliceMessage);
             }
-            return Arrival::Refused(Refusal::InvalidSliceMessage);
+            return self.fresh(free, num);
         }
         Arrival::Refused(Refusal::BadStore)
     }
 
     // What a message with so many pieces is told that would open the lane `free`.
-    fn judge_new(self, free: usize, num_slices: usize) -> Arrival
+    fn fresh(self, free: usize, num_slices: usize) -> Arrival
         requires { Valid self × (free ≡ lowest_free_of self.lanes self.settings.lanes) × (num_slices ≤ self.settings.pieces) }
         ensures { slice_to (fresh free) result ≡ fresh_lane self num_slices }
     {
@@ -543,13 +497,16 @@ impl ReceiveChannelUnreliable {
 fn lane_for(opened: Opened, free: usize) -> SlicePlace
     ensures { slice_place_of result ≡ lane_for_of opened free }
 {
-    let Opened::At { lane, charge: _ } = opened else {
+    if let Opened::At(l, _) = opened {
         return SlicePlace {
-            lane: free,
-            fresh: true,
+            lane: l,
+            fresh: false,
         };
-    };
-    SlicePlace { lane, fresh: false }
+    }
+    SlicePlace {
+        lane: free,
+        fresh: true,
+    }
 }
 
 // Where the open message with an id is.
@@ -557,12 +514,11 @@ fn locate<'a>(opens: &'a [bool], lane_ids: &'a [u64], lane_lens: &'a [usize], id
     requires { (length opens.now ≡ LANES) × (length lane_ids.now ≡ LANES) × (length lane_lens.now ≡ LANES) }
     ensures { result ≡ opened_by opens.now lane_ids.now lane_lens.now id }
 {
-    let lane = channel::find(opens, lane_ids, id);
-    if LANES <= lane {
+    let l = channel::find(opens, lane_ids, id);
+    if LANES <= l {
         return Opened::Nothing;
     }
-    let charge = lane_lens[lane];
-    Opened::At { lane, charge }
+    Opened::At(l, lane_lens[l])
 }
 
 // Takes the first entry off a queue of so many: the others move up, and the last one's place is blank.

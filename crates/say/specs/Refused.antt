@@ -2,7 +2,7 @@
 use Rattle.std.specs.Prelude.{ℕ, List, ◌++◌}
 use Rattle.words.specs.Refusal.{number_of}
 use Rattle.words.specs.declared.Refusal.{Refusal}
-use Rattle.words.specs.declared.Refusal.TheVariants.{BufferTooShort, InvalidNumSlices, SliceSizeAboveLimit, EmptySlice, InvalidAckRange, InvalidPacketType, ReliableChannelMaxMemoryReached, InvalidSliceMessage, BadSettings, BadStore, TableFull, TooLong, BadNumber, ClockBack, NoRoom, WrongKind, BadIndex, TooFarAhead, InvalidSliceIndex, BadSample, NoSuchChannel, BadPlan, BadRecord}
+use Rattle.words.specs.declared.Refusal.TheVariants.{BufferTooShort, InvalidNumSlices, SliceSizeAboveLimit, EmptySlice, InvalidAckRange, InvalidPacketType, ReliableChannelMaxMemoryReached, InvalidSliceMessage, BadSettings, BadStore, TableFull, TooLong, BadNumber, ClockBack, NoRoom, WrongKind, BadIndex}
 use Rattle.script.specs.Ascii.{ascii}
 use Rattle.say.specs.Say.{decimal_of}
 
@@ -24,12 +24,6 @@ name_of ClockBack = ascii "ClockBack"
 name_of NoRoom = ascii "NoRoom"
 name_of WrongKind = ascii "WrongKind"
 name_of BadIndex = ascii "BadIndex"
-name_of TooFarAhead = ascii "TooFarAhead"
-name_of InvalidSliceIndex = ascii "InvalidSliceIndex"
-name_of BadSample = ascii "BadSample"
-name_of NoSuchChannel = ascii "NoSuchChannel"
-name_of BadPlan = ascii "BadPlan"
-name_of BadRecord = ascii "BadRecord"
 
 abbrev pub refusal_of : Refusal → List ℕ
 refusal_of e = decimal_of (number_of e) ++ ascii " " ++ name_of e

@@ -56,12 +56,6 @@ pub fn refusal(page: &mut [u8], at: usize, e: Refusal) -> usize
         Refusal::NoRoom => text(page, at, b"15 NoRoom"),
         Refusal::WrongKind => text(page, at, b"16 WrongKind"),
         Refusal::BadIndex => text(page, at, b"17 BadIndex"),
-        Refusal::TooFarAhead => text(page, at, b"18 TooFarAhead"),
-        Refusal::InvalidSliceIndex => text(page, at, b"19 InvalidSliceIndex"),
-        Refusal::BadSample => text(page, at, b"20 BadSample"),
-        Refusal::NoSuchChannel => text(page, at, b"21 NoSuchChannel"),
-        Refusal::BadPlan => text(page, at, b"22 BadPlan"),
-        Refusal::BadRecord => text(page, at, b"23 BadRecord"),
     }
 }
 

@@ -1,7 +1,6 @@
 pub mod Valid
 pub mod Queueing
 pub mod Acking
-pub mod Oldest
 pub mod Theorems
 pub mod RoundLists
 pub mod Visits

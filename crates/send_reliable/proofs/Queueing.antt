@@ -1,6 +1,6 @@
 -- What a set-up gives, where a message that is queued goes, and what queueing gives. Assumes nothing.
 use Prim.Native.Nat.{ℕ, ◌+◌, ◌*◌, ◌≤◌, ◌<◌}
-use mathlib.Core.Path.{◌≡◌, refl, ap, ◌∙◌}
+use mathlib.Core.Path.{◌≡◌, refl, sym, ap, ◌∙◌}
 use mathlib.Core.Bool.{Bool, true, false, not}
 use mathlib.Core.List.{List, [], ◌∷◌}
 use native.Mathlib.Omega.{arith}
@@ -15,14 +15,15 @@ use Rattle.words.specs.declared.Refusal.{Refusal}
 use Rattle.words.proofs.Lists.{holds-le, holds-lt, hit-below, none-refused}
 use Rattle.words.proofs.Splice.{copy-none, copy_more, copy-all}
 use Rattle.words.proofs.Tables.{clash}
-use Rattle.channel.specs.Settings.{SettledGives, small_len_of, lane_len_of, lanes_len_of, stores_hold_of}
+use Rattle.channel.specs.Settings.{settings_refusal, least_settings, small_len_of, lane_len_of, lanes_len_of, stores_hold_of}
 use Rattle.channel.specs.declared.Settings.{Settings}
-use Rattle.channel.specs.declared.Settled.{Settled}
-use Rattle.channel.proofs.Good.{stores-room}
+use Rattle.channel.specs.declared.Setup.TheVariants as setup
+use Rattle.channel.proofs.Good.{good, least-good, stores-room}
+use Rattle.words.proofs.Unique.{numbered-above}
 use Rattle.send_reliable.specs.declared.Row.{Row}
 use Rattle.send_reliable.specs.declared.Piece.{Piece}
 use Rattle.send_reliable.specs.declared.SendChannelReliable.{SendChannelReliable}
-use Rattle.send_reliable.specs.declared.Enqueue.TheVariants as queue
+use Rattle.send_reliable.specs.declared.Queue.TheVariants as queue
 use Rattle.send_reliable.specs.Sender.{no_piece, new_of, Valid, MadeGives}
 use Rattle.send_reliable.specs.Queue.{queue_refusal, cell, lane, refused, free_in, free_spot, spot_of, add_small, add_sliced, QueueGives}
 use Rattle.send_reliable.specs.QueueSteps.{spot_in, RowFits}
@@ -31,14 +32,12 @@ use Rattle.send_reliable.proofs.Valid.{new-valid, CellFree, LaneFree, add-small-
 
 -- ---- a new sender
 
-pub made : (channel : ℕ) (s : Settings) (resend : ℕ) (d : Settled) (t : SendChannelReliable) → SettledGives s d → t ≡ new_of channel d.settings resend
-    → MadeGives channel s resend (record { answer = d.answer; state = t })
-made channel s resend d t g et =
-    record {
-      number = g.number;
-      state = et ∙ ap (λ (x : Settings). new_of channel x resend) g.settings;
-      valid = rw et (new-valid channel d.settings resend g.good);
-    }
+module _ (channel : ℕ) (s : Settings) (resend : ℕ) (t : SendChannelReliable) where
+  pub made-ready : settings_refusal s ≡ 0 → t ≡ new_of channel s resend → MadeGives channel s resend (record { answer = setup.Ready; state = t })
+  made-ready e et = record { number = sym e; state = rw e et; valid = rw et (new-valid channel s resend (good s e)) }
+
+  pub made-refused : (e : Refusal) → settings_refusal s ≡ number_of e → t ≡ new_of 0 least_settings 0 → MadeGives channel s resend (record { answer = setup.Refused e; state = t })
+  made-refused e h et = record { number = sym h; state = rw (h, numbered-above e) et; valid = rw et (new-valid 0 least_settings 0 least-good) }
 
 -- ---- where a message goes, by the tests that led there
 

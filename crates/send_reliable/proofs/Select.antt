@@ -20,8 +20,8 @@ use Rattle.channel.proofs.Good.{lane-within}
 use Rattle.pack.specs.Encode.{Lent}
 use Rattle.pack.specs.Rows as rows
 use Rattle.pack.proofs.Pieces.{pieces-most, pieces-two, piece-most, piece-within}
-use Rattle.send_reliable.specs.declared.LastSent.{LastSent}
-use Rattle.send_reliable.specs.declared.LastSent.TheVariants.{Never, At}
+use Rattle.send_reliable.specs.declared.Sent.{Sent}
+use Rattle.send_reliable.specs.declared.Sent.TheVariants.{Never, At}
 use Rattle.send_reliable.specs.declared.Sending.{Sending}
 use Rattle.send_reliable.specs.declared.Kind.{Kind}
 use Rattle.send_reliable.specs.declared.Kind.TheVariants.{Small, Sliced}
@@ -75,7 +75,7 @@ module _ (st : Settings) (resend now : ℕ) (c : Chosen) (v : Visit) where
       (with_piece st resend now c v.row v.piece row l a (piece_of c l v.piece)) c
 
 -- what goes is covered by what is left
-pub enough : (resend now left need : ℕ) (t : LastSent) → goes resend now left need t ≡ true → need ≤ left
+pub enough : (resend now left need : ℕ) (t : Sent) → goes resend now left need t ≡ true → need ≤ left
 enough resend now left need t = by-test (ltb left need) (λ e g. clash (let z = rw e at g in cc)) (λ e g. ltb-false left need e)
 
 unacked : (b g : Bool) → pick b false g ≡ true → g ≡ true
@@ -101,7 +101,7 @@ module _ (st : Settings) (resend now : ℕ) (P : Chosen → Type 0) (c : Chosen)
 -- ---- a sender stays valid
 
 module _ (s : SendChannelReliable) (now : ℕ) where
-  later : (t : LastSent) → s.latest ≤ now → SentBy s.latest t → SentBy now t
+  later : (t : Sent) → s.latest ≤ now → SentBy s.latest t → SentBy now t
   later Never h p = tt
   later (At t) h p = omega arith
 

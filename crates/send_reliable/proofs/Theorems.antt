@@ -27,8 +27,8 @@ use Rattle.send_reliable.specs.declared.Row.{Row}
 use Rattle.send_reliable.specs.declared.Piece.{Piece}
 use Rattle.send_reliable.specs.declared.SendChannelReliable.{SendChannelReliable}
 use Rattle.send_reliable.specs.declared.Made.{Made}
-use Rattle.send_reliable.specs.declared.Enqueue.{Enqueue}
-use Rattle.send_reliable.specs.declared.Enqueue.TheVariants as queue
+use Rattle.send_reliable.specs.declared.Queue.{Queue}
+use Rattle.send_reliable.specs.declared.Queue.TheVariants as queue
 use Rattle.send_reliable.specs.declared.Queued.{Queued}
 use Rattle.send_reliable.specs.declared.Found.TheVariants.{At}
 use Rattle.send_reliable.specs.declared.Ack.{Ack}
@@ -73,24 +73,24 @@ one-made channel s resend r p x y =
     ap (λ (b : Setup). record { answer = b; state = r.state }) (one-setup r.answer p.answer (x.number ∙ sym y.number))
     ∙ ap (λ (t : SendChannelReliable). record { answer = p.answer; state = t }) (x.state ∙ sym y.state)
 
-abbrev queue_from : q.QueueAnswer → Enqueue
-queue_from (q.waits n) = queue.Taken (record { 0 = n })
+abbrev queue_from : q.Outcome → Queue
+queue_from (q.taken n) = queue.Taken (record { 0 = n })
 queue_from (q.refusing n) = queue.Refused (refusal_of n)
 
-queue-undone : (b : Enqueue) → queue_from (q.queue_of b) ≡ b
+queue-undone : (b : Queue) → queue_from (q.queue_of b) ≡ b
 queue-undone (queue.Taken id) = refl
 queue-undone (queue.Refused e) = ap queue.Refused (refusal-undone e)
 
 pub one-queue : (s : SendChannelReliable) (msg small lanes small₁ lanes₁ small₂ lanes₂ : List ℕ) (r p : Queued)
     → q.QueueGives s msg small lanes small₁ lanes₁ r → q.QueueGives s msg small lanes small₂ lanes₂ p → (r ≡ p) × (small₁ ≡ small₂) × (lanes₁ ≡ lanes₂)
 one-queue s msg small lanes small₁ lanes₁ small₂ lanes₂ r p x y = (
-  ap (λ (b : Enqueue). record { answer = b; state = r.state }) (told-apart q.queue_of queue_from queue-undone r.answer p.answer (x.answer ∙ sym y.answer))
+  ap (λ (b : Queue). record { answer = b; state = r.state }) (told-apart q.queue_of queue_from queue-undone r.answer p.answer (x.answer ∙ sym y.answer))
       ∙ ap (λ (t : SendChannelReliable). record { answer = p.answer; state = t }) (x.state ∙ sym y.state),
   x.small-store ∙ sym y.small-store,
   x.lane-store ∙ sym y.lane-store,
 )
 
-abbrev ack_from : a.AckAnswer → Ack
+abbrev ack_from : a.Outcome → Ack
 ack_from a.done = ack.Done
 ack_from a.unknown = ack.Unknown
 ack_from (a.refused n) = ack.Refused (refusal_of n)
@@ -161,7 +161,7 @@ added : (s : SendChannelReliable) → Valid s → (n : ℕ) → RowFits s n → 
 added s v n f kind cells lanes pieces = record { kind = kind; rows = live_more s v f.low n kind cells lanes pieces; next = refl; usage = refl }
 
 module _ (s : SendChannelReliable) (v : Valid s) (msg small lanes : List ℕ) where
-  spot-added : (spot : q.Spot) → q.spot_of s (length msg) (length small) (length lanes) ≡ spot → (id : ℕ) → q.answer_at s spot ≡ q.waits id
+  spot-added : (spot : q.Spot) → q.spot_of s (length msg) (length small) (length lanes) ≡ spot → (id : ℕ) → q.answer_at s spot ≡ q.taken id
       → (id ≡ s.next_reliable_message_id) × Added s (length msg) (q.state_at s (length msg) spot)
   unfolding q.add_small q.add_sliced
   spot-added (q.cell i) h id e =
@@ -170,7 +170,7 @@ module _ (s : SendChannelReliable) (v : Valid s) (msg small lanes : List ℕ) wh
       (cc, added s v (length msg) (lane-fits s v (length msg) l (spot-lane s v (length msg) (length small) (length lanes) l h).0) (Sliced l 0 0) _ _ _)
   spot-added (q.refused n) h id e = clash (cc)
 
-  pub queued-last : (id : ℕ) (small' lanes' : List ℕ) (r : Queued) → q.QueueGives s msg small lanes small' lanes' r → q.queue_of r.answer ≡ q.waits id
+  pub queued-last : (id : ℕ) (small' lanes' : List ℕ) (r : Queued) → q.QueueGives s msg small lanes small' lanes' r → q.queue_of r.answer ≡ q.taken id
       → (id ≡ s.next_reliable_message_id) × Added s (length msg) r.state
   queued-last id small' lanes' r g e =
       let k = spot-added (q.spot_of s (length msg) (length small) (length lanes)) refl id (sym g.answer ∙ e) in

@@ -47,21 +47,21 @@ without s k n cells lanes =
 
 -- ---- the answers
 
-pub data AckAnswer : Type 0 where
-  done : AckAnswer
-  unknown : AckAnswer
-  refused : ℕ → AckAnswer
+pub data Outcome : Type 0 where
+  done : Outcome
+  unknown : Outcome
+  refused : ℕ → Outcome
 
-abbrev pub ack_of : Ack → AckAnswer
+abbrev pub ack_of : Ack → Outcome
 ack_of ack.Done = done
 ack_of ack.Unknown = unknown
 ack_of (ack.Refused e) = refused (number_of e)
 
 pub record After : Type 0 where
-  pub answer : AckAnswer
+  pub answer : Outcome
   pub state : SendChannelReliable
 
-abbrev pub after : AckAnswer → SendChannelReliable → After
+abbrev pub after : Outcome → SendChannelReliable → After
 after o s = record { answer = o; state = s }
 
 -- 13, unknown, then what the message in its row gives

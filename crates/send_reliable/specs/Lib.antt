@@ -1,6 +1,5 @@
 pub mod Sender
 pub mod Queue
-pub mod Oldest
 pub mod Ack
 pub mod QueueSteps
 pub mod Select

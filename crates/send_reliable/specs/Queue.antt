@@ -1,7 +1,7 @@
 -- Queueing on a reliable sender. Document 01: 10, 13, 12, 7, 11. Assumes nothing.
 use Rattle.std.specs.Prelude.{ℕ, ◌+◌, ◌-◌, ◌*◌, ◌≡◌, Bool, true, not, List, [], ◌∷◌, length, set, replicate, ltb, leb, eqb}
 use Rattle.words.specs.Sizes.{SLICE_SIZE, PIECES, LIMIT}
-use Rattle.words.specs.Pieces.{is_small, pieces_of}
+use Rattle.words.specs.Pieces.{pieces_of}
 use Rattle.words.specs.Choice.{pick, refusal}
 use Rattle.words.specs.Lists.{splice, lowest_free_of}
 use Rattle.words.specs.Refusal.{number_of}
@@ -11,8 +11,8 @@ use Rattle.send_reliable.specs.declared.Kind.{Kind}
 use Rattle.send_reliable.specs.declared.Kind.TheVariants.{Small, Sliced}
 use Rattle.send_reliable.specs.declared.Piece.{Piece}
 use Rattle.send_reliable.specs.declared.SendChannelReliable.{SendChannelReliable}
-use Rattle.send_reliable.specs.declared.Enqueue.{Enqueue}
-use Rattle.send_reliable.specs.declared.Enqueue.TheVariants as queue
+use Rattle.send_reliable.specs.declared.Queue.{Queue}
+use Rattle.send_reliable.specs.declared.Queue.TheVariants as queue
 use Rattle.send_reliable.specs.declared.Queued.{Queued}
 use Rattle.send_reliable.specs.Sender.{unsent, as_row, no_piece, Valid}
 
@@ -35,9 +35,10 @@ pub data Spot : Type 0 where
   lane : ℕ → Spot
   refused : ℕ → Spot
 
+-- up to 1,200 bytes a message is small
 abbrev pub free_in : Settings → ℕ → ℕ → ℕ → Spot
 free_in settings i l n =
-    pick (is_small n)
+    pick (leb n SLICE_SIZE)
     (pick (ltb i settings.slots) (cell i) (refused 11))
     (pick (ltb l settings.lanes) (lane l) (refused 11))
 
@@ -81,17 +82,17 @@ can_send_of s n = leb (s.memory_usage_bytes + n) s.settings.max_memory_usage_byt
 
 -- ---- what queueing gives
 
-pub data QueueAnswer : Type 0 where
-  waits : ℕ → QueueAnswer
-  refusing : ℕ → QueueAnswer
+pub data Outcome : Type 0 where
+  taken : ℕ → Outcome
+  refusing : ℕ → Outcome
 
-abbrev pub queue_of : Enqueue → QueueAnswer
-queue_of (queue.Taken id) = waits id.0
+abbrev pub queue_of : Queue → Outcome
+queue_of (queue.Taken id) = taken id.0
 queue_of (queue.Refused e) = refusing (number_of e)
 
-abbrev pub answer_at : SendChannelReliable → Spot → QueueAnswer
-answer_at s (cell i) = waits s.next_reliable_message_id
-answer_at s (lane l) = waits s.next_reliable_message_id
+abbrev pub answer_at : SendChannelReliable → Spot → Outcome
+answer_at s (cell i) = taken s.next_reliable_message_id
+answer_at s (lane l) = taken s.next_reliable_message_id
 answer_at s (refused e) = refusing e
 
 abbrev pub state_at : SendChannelReliable → ℕ → Spot → SendChannelReliable

@@ -4,7 +4,7 @@ use Rattle.words.specs.Sizes.{SLICE_SIZE, PIECES}
 use Rattle.words.specs.Choice.{pick}
 use Rattle.words.specs.Pieces.{pieces_of}
 use Rattle.pack.specs.Pack.{items_in}
-use Rattle.send_reliable.specs.declared.LastSent.{LastSent}
+use Rattle.send_reliable.specs.declared.Sent.{Sent}
 use Rattle.send_reliable.specs.declared.Kind.{Kind}
 use Rattle.send_reliable.specs.declared.Kind.TheVariants.{Small, Sliced}
 use Rattle.send_reliable.specs.declared.SendChannelReliable.{SendChannelReliable}
@@ -33,7 +33,7 @@ Ranged n (Small i t) = Unit
 Ranged n (Sliced l a next) = (n ≤ PIECES * SLICE_SIZE) × (next ≤ pieces_of n)
 
 -- whether what needs this much of what is left of the allowance goes
-abbrev pub goes : ℕ → ℕ → ℕ → ℕ → LastSent → Bool
+abbrev pub goes : ℕ → ℕ → ℕ → ℕ → Sent → Bool
 goes resend now left need t = pick (ltb left need) false (due resend now t)
 
 -- what choosing gives: as many items as it says, in the table, and the state with their sendings

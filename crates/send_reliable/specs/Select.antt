@@ -7,8 +7,8 @@ use Rattle.words.specs.Lists.{reached}
 use Rattle.channel.specs.Settings.{lane_len_of}
 use Rattle.channel.specs.declared.Settings.{Settings}
 use Rattle.pack.specs.Pack.{Item}
-use Rattle.send_reliable.specs.declared.LastSent.{LastSent}
-use Rattle.send_reliable.specs.declared.LastSent.TheVariants.{Never, At}
+use Rattle.send_reliable.specs.declared.Sent.{Sent}
+use Rattle.send_reliable.specs.declared.Sent.TheVariants.{Never, At}
 use Rattle.send_reliable.specs.declared.Sending.{Sending}
 use Rattle.send_reliable.specs.declared.Kind.{Kind}
 use Rattle.send_reliable.specs.declared.Kind.TheVariants.{Small, Sliced}
@@ -45,7 +45,7 @@ visits_from k (r ∷ rs) = row_visits k r.len (kind_of r) ++ visits_from (k + 1)
 -- ---- what goes
 
 -- never sent, or the elapsed time is at least the resend time
-abbrev pub due : ℕ → ℕ → LastSent → Bool
+abbrev pub due : ℕ → ℕ → Sent → Bool
 due resend now Never = true
 due resend now (At t) = leb resend (now - t)
 

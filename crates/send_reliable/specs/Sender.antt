@@ -7,8 +7,8 @@ use Rattle.words.specs.Lists.{holds, total, All, Pairs}
 use Rattle.words.specs.declared.MessageId.{MessageId}
 use Rattle.channel.specs.Settings.{settings_refusal, setup_number, Good, least_settings}
 use Rattle.channel.specs.declared.Settings.{Settings}
-use Rattle.send_reliable.specs.declared.LastSent.{LastSent}
-use Rattle.send_reliable.specs.declared.LastSent.TheVariants.{Never, At}
+use Rattle.send_reliable.specs.declared.Sent.{Sent}
+use Rattle.send_reliable.specs.declared.Sent.TheVariants.{Never, At}
 use Rattle.send_reliable.specs.declared.Sending.{Sending}
 use Rattle.send_reliable.specs.declared.Kind.{Kind}
 use Rattle.send_reliable.specs.declared.Kind.TheVariants.{Small, Sliced}
@@ -23,7 +23,7 @@ ROWS = SLOTS + LANES
 -- ---- what a table's plain fields say, and a row by its kind
 
 -- when something was last sent, if ever
-abbrev pub last_sent_of : Sending → LastSent
+abbrev pub last_sent_of : Sending → Sent
 last_sent_of t = pick (eqb t.sent 0) Never (At t.time)
 
 abbrev pub unsent : Sending
@@ -69,7 +69,7 @@ abbrev pub live : SendChannelReliable → List Row
 live s = take s.count s.rows
 
 -- nothing was sent after the latest accepted time
-abbrev pub SentBy : ℕ → LastSent → Type 0
+abbrev pub SentBy : ℕ → Sent → Type 0
 SentBy latest Never = Unit
 SentBy latest (At t) = t ≤ latest
 
@@ -125,5 +125,5 @@ pub record Valid (s : SendChannelReliable) : Type 0 where
 
 pub record MadeGives (channel : ℕ) (s : Settings) (resend : ℕ) (r : Made) : Type 0 where
   pub number : setup_number r.answer ≡ settings_refusal s
-  pub state : r.state ≡ new_of channel (pick (eqb (settings_refusal s) 0) s least_settings) resend
+  pub state : r.state ≡ pick (eqb (settings_refusal s) 0) (new_of channel s resend) (new_of 0 least_settings 0)
   pub valid : Valid r.state

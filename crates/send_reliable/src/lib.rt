@@ -4,7 +4,6 @@ ghost use Rattle.std.specs.Prelude.{◌≡◌, ◌*◌, ◌≤◌, ◌<◌, ◌+
 ghost use Rattle.words.specs.Sizes.{SLICE_SIZE, LANES, PIECES};
 ghost use Rattle.send_reliable.specs.Sender.{ROWS, last_sent_of, kind_of, as_row, no_row, no_piece, new_of, Valid, MadeGives, live, SentBy};
 ghost use Rattle.send_reliable.specs.Queue.{free_in, add_sliced, available_memory_of, can_send_of, QueueGives};
-ghost use Rattle.send_reliable.specs.Oldest.{oldest_unacknowledged_of};
 ghost use Rattle.send_reliable.specs.Ack.{closed, ack_small, ack_piece, AckGives};
 ghost use Rattle.send_reliable.specs.QueueSteps.{spot_in, place_of, Narrow, RowFits, found_in, small_step, piece_step, ShortFound};
 ghost use Rattle.channel.specs.Settings.{Good};
@@ -25,9 +24,8 @@ const ROWS: usize = SLOTS + LANES;
 // Pieces of all lanes; piece i of lane l is at l × PIECES + i.
 const ALL_PIECES: usize = LANES * PIECES;
 
-// When something was last sent, if ever.
 #[derive(Drop)]
-pub enum LastSent {
+pub enum Sent {
     Never,
     At(u64),
 }
@@ -45,15 +43,8 @@ pub struct Sending {
 // pieces are acknowledged, and the piece after the last sent one.
 #[derive(Drop)]
 pub enum Kind {
-    Small {
-        cell: usize,
-        sending: Sending,
-    },
-    Sliced {
-        lane: usize,
-        acked: usize,
-        next: usize,
-    },
+    Small(usize, Sending),
+    Sliced(usize, usize, usize),
 }
 
 // A waiting message. Its cell or lane is `place`; `acked` and `next` are a sliced one's, `sending` a
@@ -92,7 +83,6 @@ pub struct SendChannelReliable {
     pieces: [Piece; ALL_PIECES],
 }
 
-// A call that changes the state returns the answer beside it, in a struct named by a participle.
 #[derive(Drop)]
 pub struct Made {
     pub answer: Setup,
@@ -101,14 +91,14 @@ pub struct Made {
 
 // The id of a message that was queued, or the refusal.
 #[derive(Drop)]
-pub enum Enqueue {
+pub enum Queue {
     Taken(MessageId),
     Refused(Refusal),
 }
 
 #[derive(Drop)]
 pub struct Queued {
-    pub answer: Enqueue,
+    pub answer: Queue,
     pub state: SendChannelReliable,
 }
 
@@ -152,7 +142,7 @@ enum Found {
 #[derive(Drop)]
 enum AckSmall {
     Left(Ack),
-    Gone { k: usize, row: Row, cell: usize },
+    Gone(usize, Row, usize),
 }
 
 // What the ack of a piece comes to: an answer that changes nothing, or the message's row with its
@@ -160,23 +150,17 @@ enum AckSmall {
 #[derive(Drop)]
 enum AckPiece {
     Left(Ack),
-    Marks {
-        k: usize,
-        row: Row,
-        lane: usize,
-        acked: usize,
-        next: usize,
-    },
+    Marks(usize, Row, usize, usize, usize),
 }
 
 impl Sending {
-    fn last_sent(self) -> LastSent
+    fn last_sent(self) -> Sent
         ensures { result ≡ last_sent_of self }
     {
         if self.sent == 0 {
-            return LastSent::Never;
+            return Sent::Never;
         }
-        LastSent::At(self.time)
+        Sent::At(self.time)
     }
 }
 
@@ -186,7 +170,7 @@ impl Row {
         ensures { result ≡ as_row id n kind }
     {
         match kind {
-            Kind::Small { cell, sending } => Row {
+            Kind::Small(cell, sending) => Row {
                 id,
                 len: n as u32,
                 sliced: false,
@@ -195,7 +179,7 @@ impl Row {
                 next: 0,
                 sending,
             },
-            Kind::Sliced { lane, acked, next } => Row {
+            Kind::Sliced(lane, acked, next) => Row {
                 id,
                 len: n as u32,
                 sliced: true,
@@ -225,17 +209,10 @@ impl Row {
         ensures { result ≡ kind_of self }
     {
         if self.sliced {
-            return Kind::Sliced {
-                lane: self.place as usize,
-                acked: self.acked as usize,
-                next: self.next as usize,
-            };
+            return Kind::Sliced(self.place as usize, self.acked as usize, self.next as usize);
         }
         let sending = self.sending;
-        Kind::Small {
-            cell: self.place as usize,
-            sending,
-        }
+        Kind::Small(self.place as usize, sending)
     }
 }
 
@@ -343,10 +320,10 @@ fn judge_message_ack(id: u64, found: Found) -> AckSmall
         return AckSmall::Left(Ack::Unknown);
     };
     let kind = row.kind();
-    let Kind::Small { cell, sending: _ } = kind else {
+    let Kind::Small(cell, _) = kind else {
         return AckSmall::Left(Ack::Refused(Refusal::WrongKind));
     };
-    AckSmall::Gone { k, row, cell }
+    AckSmall::Gone(k, row, cell)
 }
 
 // What the ack of a piece comes to, by the row that was found.
@@ -361,19 +338,13 @@ fn judge_slice_ack(id: u64, index: u64, found: Found) -> AckPiece
         return AckPiece::Left(Ack::Unknown);
     };
     let kind = row.kind();
-    let Kind::Sliced { lane, acked, next } = kind else {
+    let Kind::Sliced(lane, acked, next) = kind else {
         return AckPiece::Left(Ack::Refused(Refusal::WrongKind));
     };
     if pack::num_slices(row.len as usize) as u64 <= index {
         return AckPiece::Left(Ack::Refused(Refusal::BadIndex));
     }
-    AckPiece::Marks {
-        k,
-        row,
-        lane,
-        acked,
-        next,
-    }
+    AckPiece::Marks(k, row, lane, acked, next)
 }
 
 impl SendChannelReliable {
@@ -381,11 +352,29 @@ impl SendChannelReliable {
     pub fn new(channel_id: u8, settings: Settings, resend_time: u64) -> Made
         ensures { MadeGives channel_id settings resend_time result }
     {
-        let settled = settings.settle();
-        let answer = settled.answer;
-        let used = settled.settings;
-        let state = SendChannelReliable::empty(channel_id, used, resend_time);
-        Made { answer, state }
+        let answer = settings.judge();
+        match answer {
+            Setup::Ready => {
+                let state = SendChannelReliable::empty(channel_id, settings, resend_time);
+                Made {
+                    answer: Setup::Ready,
+                    state,
+                }
+            }
+            Setup::Refused(e) => {
+                let least = Settings {
+                    slots: 1,
+                    lanes: 1,
+                    pieces: 1,
+                    max_memory_usage_bytes: 0,
+                };
+                let state = SendChannelReliable::empty(0, least, 0);
+                Made {
+                    answer: Setup::Refused(e),
+                    state,
+                }
+            }
+        }
     }
 
     // Queues a message: its bytes go to the front of the lowest free cell, or lane if it is long.
@@ -401,17 +390,17 @@ impl SendChannelReliable {
         let lane = words::lowest_free(&self.lanes, settings.lanes);
         let place = find_place(settings, id, used, cell, lane, n, small.len(), lanes.len());
         // one way out for all answers: each further one would cost a copy of the state
-        let mut answer = Enqueue::Taken(MessageId(id));
+        let mut answer = Queue::Taken(MessageId(id));
         match place {
             Place::Nowhere(e) => {
-                answer = Enqueue::Refused(e);
+                answer = Queue::Refused(e);
             }
             Place::Cell(i) => {
                 words::write_bytes(small, i * SLICE_SIZE, message);
                 self.cells[i] = true;
                 let at = self.count;
-                let sending = Sending { sent: 0, time: 0 };
-                self.rows[at] = Row::new(MessageId(id), n, Kind::Small { cell: i, sending });
+                let unsent = Sending { sent: 0, time: 0 };
+                self.rows[at] = Row::new(MessageId(id), n, Kind::Small(i, unsent));
                 self.count = at + 1;
                 self.memory_usage_bytes = used + n;
                 self.next_reliable_message_id = id + 1;
@@ -428,8 +417,7 @@ impl SendChannelReliable {
         }
     }
 
-    // Takes the ack of a small message, which is then gone: the receiver took it, or ignored it since it
-    // had taken it before.
+    // Takes the ack of a small message, which is then gone.
     pub fn process_message_ack(mut self, message_id: MessageId) -> Acked
         requires { Valid self }
         ensures { AckGives (ack_small self message_id.0) result }
@@ -444,7 +432,7 @@ impl SendChannelReliable {
             AckSmall::Left(a) => {
                 answer = a;
             }
-            AckSmall::Gone { k, row, cell } => {
+            AckSmall::Gone(k, row, cell) => {
                 self.cells[cell] = false;
                 self.rows = close(self.rows, k, count);
                 self.count = count - 1;
@@ -457,7 +445,7 @@ impl SendChannelReliable {
         }
     }
 
-    // Takes the ack of a piece, likewise; the message is gone when all its pieces are acknowledged.
+    // Takes the ack of a piece; the message is gone when all its pieces are acknowledged.
     pub fn process_slice_message_ack(
         mut self,
         message_id: MessageId,
@@ -477,13 +465,7 @@ impl SendChannelReliable {
             AckPiece::Left(a) => {
                 answer = a;
             }
-            AckPiece::Marks {
-                k,
-                row,
-                lane,
-                acked,
-                next,
-            } => {
+            AckPiece::Marks(k, row, lane, acked, next) => {
                 let at = lane * PIECES + index as usize;
                 let piece = self.pieces[at];
                 if !piece.acked {
@@ -500,15 +482,7 @@ impl SendChannelReliable {
                             sending,
                         };
                         let id = row.id;
-                        self.rows[k] = Row::new(
-                            id,
-                            len,
-                            Kind::Sliced {
-                                lane,
-                                acked: acked + 1,
-                                next,
-                            },
-                        );
+                        self.rows[k] = Row::new(id, len, Kind::Sliced(lane, acked + 1, next));
                     }
                 }
             }
@@ -542,18 +516,6 @@ impl SendChannelReliable {
         ensures { result ≡ self.memory_usage_bytes }
     {
         self.memory_usage_bytes
-    }
-
-    // The oldest message that is not acknowledged, or the next one if none waits.
-    pub fn oldest_unacknowledged(self) -> MessageId
-        requires { Valid self }
-        ensures { result.0 ≡ oldest_unacknowledged_of self }
-    {
-        if self.count == 0 {
-            return MessageId(self.next_reliable_message_id);
-        }
-        let row = self.rows[0];
-        row.id
     }
 
     // A sender that nothing waits in.
@@ -592,15 +554,7 @@ impl SendChannelReliable {
         }
         let at = self.count;
         let id = self.next_reliable_message_id;
-        self.rows[at] = Row::new(
-            MessageId(id),
-            n,
-            Kind::Sliced {
-                lane: l,
-                acked: 0,
-                next: 0,
-            },
-        );
+        self.rows[at] = Row::new(MessageId(id), n, Kind::Sliced(l, 0, 0));
         self.count = at + 1;
         self.memory_usage_bytes += n;
         self.next_reliable_message_id = id + 1;
@@ -673,8 +627,8 @@ fn write_row(visits: &mut [u64], n: usize, k: usize, row: Row) -> usize
 {
     let kind = row.kind();
     match kind {
-        Kind::Small { .. } => write_range(visits, n, k, 0, 1),
-        Kind::Sliced { next, .. } => {
+        Kind::Small(_, _) => write_range(visits, n, k, 0, 1),
+        Kind::Sliced(_, _, next) => {
             let m = write_range(visits, n, k, next, pack::num_slices(row.len as usize));
             write_range(visits, m, k, 0, next)
         }
@@ -688,8 +642,8 @@ fn is_due(sending: Sending, current_time: u64, resend_time: u64) -> bool
 {
     let last_sent = sending.last_sent();
     match last_sent {
-        LastSent::Never => true,
-        LastSent::At(t) => resend_time <= current_time - t,
+        Sent::Never => true,
+        Sent::At(t) => resend_time <= current_time - t,
     }
 }
 
@@ -757,37 +711,22 @@ impl SendChannelReliable {
             let len = row.len as usize;
             let kind = row.kind();
             match kind {
-                Kind::Small {
-                    cell,
-                    sending: last,
-                } => {
+                Kind::Small(cell, last) => {
                     if goes(len, left, last, current_time, resend_time) {
-                        self.rows[k] = Row::new(id, len, Kind::Small { cell, sending });
+                        self.rows[k] = Row::new(id, len, Kind::Small(cell, sending));
                         pack::put_item(items, m, 0, id, SliceIndex(0), cell * SLICE_SIZE, len);
                         left -= len as u64;
                         m += 1;
                     }
                 }
-                Kind::Sliced {
-                    lane,
-                    acked: num_acked,
-                    next: _,
-                } => {
+                Kind::Sliced(lane, num_acked, _) => {
                     let j = lane * PIECES + i;
                     let piece = self.pieces[j];
                     let acked = piece.acked;
                     let last = piece.sending;
-                    let size = pack::piece_len(len, i);
+                    let size = pack::slice_len(len, i);
                     if !acked && goes(SLICE_SIZE, left, last, current_time, resend_time) {
-                        self.rows[k] = Row::new(
-                            id,
-                            len,
-                            Kind::Sliced {
-                                lane,
-                                acked: num_acked,
-                                next: i + 1,
-                            },
-                        );
+                        self.rows[k] = Row::new(id, len, Kind::Sliced(lane, num_acked, i + 1));
                         self.pieces[j] = Piece { acked, sending };
                         let place = lane * lane_len + i * SLICE_SIZE;
                         let index = SliceIndex(i as u64);

@@ -10,7 +10,7 @@ use lib.Dec.{ltb}
 use lib.ListN.{length, get_or, take, drop, length-append, drop_of_length-le}
 use lib.Seq.{length-take-le, drop-cons, get_or-take}
 use Rattle.words.specs.Sizes.{SLICE_SIZE, SLOTS, LANES, PIECES, LIMIT}
-use Rattle.words.specs.Pieces.{is_small, pieces_of, piece_len_of}
+use Rattle.words.specs.Pieces.{pieces_of, piece_len_of}
 use Rattle.words.specs.Lists.{splice, total, All, reached}
 use Rattle.words.proofs.Lists.{total-snoc, all_snoc, all_append}
 use Rattle.words.proofs.Tables.{pick-cases}
@@ -24,7 +24,7 @@ use Rattle.pack.specs.Steps.{item_words}
 use Rattle.pack.specs.Round.{ITEMS}
 use Rattle.pack.proofs.Tables.{length-items, items-put}
 use Rattle.pack.proofs.Pieces.{pieces-most, pieces-needed, pieces-two, piece-most, piece-within}
-use Rattle.send_unreliable.specs.Sender.{waiting, Valid}
+use Rattle.send_unreliable.specs.Sender.{waiting, is_small, Valid}
 use Rattle.send_unreliable.specs.Round.{Chosen, pieces_from, go, starting, select}
 use Rattle.send_unreliable.specs.Steps.{chosen_at, small_one, sliced_one, Room}
 use Rattle.send_unreliable.specs.declared.Selection.{Selection}

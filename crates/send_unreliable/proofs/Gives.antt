@@ -14,9 +14,10 @@ use Rattle.words.specs.Refusal.{number_of}
 use Rattle.words.specs.declared.Refusal.{Refusal}
 use Rattle.words.specs.declared.Refusal.TheVariants.{BadStore, BadNumber}
 use Rattle.words.proofs.Tables.{by-test, clash}
-use Rattle.channel.specs.Settings.{SettledGives, lane_len_of, stores_hold_of}
+use Rattle.channel.specs.Settings.{settings_refusal, least_settings, lane_len_of, stores_hold_of}
 use Rattle.channel.specs.declared.Settings.{Settings}
-use Rattle.channel.specs.declared.Settled.{Settled}
+use Rattle.channel.specs.declared.Setup.TheVariants as setup
+use Rattle.channel.proofs.Good.{good, least-good}
 use Rattle.words.proofs.Unique.{numbered-above}
 use Rattle.pack.specs.Pack.{pack}
 use Rattle.pack.specs.Encode.{round_refusal}
@@ -29,20 +30,19 @@ use Rattle.send_unreliable.specs.Sender.{empty_of, Valid, MadeGives, cell, lane,
 use Rattle.send_unreliable.specs.Round.{Given, Chosen, select, packs, lent, refusal_of, RoundGives}
 use Rattle.send_unreliable.specs.declared.SendChannelUnreliable.{SendChannelUnreliable}
 use Rattle.send_unreliable.specs.declared.Round.{Round}
-use Rattle.send_unreliable.specs.declared.Enqueue.TheVariants as queue
+use Rattle.send_unreliable.specs.declared.Queue.TheVariants as queue
 use Rattle.send_unreliable.proofs.Spots.{spot-cell, spot-lane}
 use Rattle.send_unreliable.proofs.Valid.{empty-valid, rows-free, queued-valid}
 
 -- ---- a new sender
 
-pub made : (channel : ℕ) (s : Settings) (d : Settled) (t : SendChannelUnreliable) → SettledGives s d → t ≡ empty_of channel d.settings 0
-    → MadeGives channel s (record { answer = d.answer; state = t })
-made channel s d t g et =
-    record {
-      number = g.number;
-      state = et ∙ ap (λ (x : Settings). empty_of channel x 0) g.settings;
-      valid = rw et (empty-valid channel d.settings 0 g.good zero-le);
-    }
+module _ (channel : ℕ) (s : Settings) (t : SendChannelUnreliable) where
+  pub made-ready : settings_refusal s ≡ 0 → t ≡ empty_of channel s 0 → MadeGives channel s (record { answer = setup.Ready; state = t })
+  made-ready e et = record { number = sym e; state = rw e et; valid = rw et (empty-valid channel s 0 (good s e) zero-le) }
+
+  pub made-refused : (e : Refusal) → settings_refusal s ≡ number_of e → t ≡ empty_of 0 least_settings 0 → MadeGives channel s (record { answer = setup.Refused e; state = t })
+  made-refused e h et =
+      record { number = sym h; state = rw (h, numbered-above e) et; valid = rw et (empty-valid 0 least_settings 0 least-good zero-le) }
 
 -- ---- queueing
 

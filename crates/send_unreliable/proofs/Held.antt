@@ -11,7 +11,7 @@ use lib.Dec.{ltb, eqb}
 use lib.ListN.{length, take, drop}
 use lib.Seq.{take-add, drop-drop}
 use Rattle.words.specs.Sizes.{SLICE_SIZE}
-use Rattle.words.specs.Pieces.{is_small, pieces_of, piece_len_of}
+use Rattle.words.specs.Pieces.{pieces_of, piece_len_of}
 use Rattle.words.specs.Lists.{splice, total, All, reached}
 use Rattle.words.proofs.Tables.{part-before, part-here, by-test, clash}
 use Rattle.channel.specs.Settings.{lane_len_of}
@@ -20,7 +20,7 @@ use Rattle.channel.proofs.Good.{lane-within}
 use Rattle.pack.specs.Pack.{Item}
 use Rattle.pack.specs.Encode.{end_to_end}
 use Rattle.pack.proofs.Pieces.{pieces-two}
-use Rattle.send_unreliable.specs.Sender.{ROWS, empty_of, waiting, Valid, Spot, cell, lane, dropped, refused, spot_of, state_at, answer_at, waits, queue_of, small_at_of, lanes_at, queued, QueueGives}
+use Rattle.send_unreliable.specs.Sender.{ROWS, empty_of, waiting, is_small, Valid, Spot, cell, lane, dropped, refused, spot_of, state_at, answer_at, taken, queue_of, small_at_of, lanes_at, queued, QueueGives}
 use Rattle.send_unreliable.specs.Round.{Chosen, pieces_from, go, starting, select}
 use Rattle.send_unreliable.specs.Steps.{small_one, sliced_one}
 use Rattle.send_unreliable.specs.Laws.{Lie, none_lie, small_lies, sliced-lies, Holds, covered, item_bytes}
@@ -64,7 +64,7 @@ module _ (s : SendChannelUnreliable) (v : Valid s) (msg small lanes : List ℕ) 
   more-lens : (k l : ℕ) → s.count < ROWS → map length (ms ++ (msg ∷ [])) ≡ waiting (queued s (length msg) k l)
   more-lens k l h = map-append length ms (msg ∷ []) ∙ rw o.lens (sym (grown s v (length msg) k l h))
 
-  spot-holds : (spot : Spot) → spot_of s (length msg) (length small) (length lanes) ≡ spot → answer_at spot ≡ waits
+  spot-holds : (spot : Spot) → spot_of s (length msg) (length small) (length lanes) ≡ spot → answer_at spot ≡ taken
       → Holds (state_at s (length msg) spot) (small_at_of s spot msg small) (lanes_at s spot msg lanes) (ms ++ (msg ∷ []))
   spot-holds cell e t =
       let p = spot-cell s (length msg) (length small) (length lanes) e in
@@ -86,7 +86,7 @@ module _ (s : SendChannelUnreliable) (v : Valid s) (msg small lanes : List ℕ) 
   spot-holds (refused x) e t = clash (cc)
 
   -- a message that is taken waits after the others, and all lie where they are looked for
-  pub taken-holds : (small' lanes' : List ℕ) (r : Queued) → QueueGives s msg small lanes small' lanes' r → queue_of r.answer ≡ waits → Holds r.state small' lanes' (ms ++ (msg ∷ []))
+  pub taken-holds : (small' lanes' : List ℕ) (r : Queued) → QueueGives s msg small lanes small' lanes' r → queue_of r.answer ≡ taken → Holds r.state small' lanes' (ms ++ (msg ∷ []))
   taken-holds small' lanes' r g t =
       rw (g.state, g.small-store, g.lane-store)
       (spot-holds (spot_of s (length msg) (length small) (length lanes)) refl (sym g.answer ∙ t))

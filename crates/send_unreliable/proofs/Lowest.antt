@@ -10,7 +10,7 @@ use lib.ListN.{length, set, take, replicate, length-append, length-replicate}
 use lib.Seq.{take-length}
 use Rattle.words.specs.Choice.{pick}
 use Rattle.words.specs.Lists.{first, lowest_free_of, total, reached}
-use Rattle.send_unreliable.specs.Laws.{take_lowest, held_after}
+use Rattle.send_unreliable.specs.Laws.{take_lowest, taken}
 
 -- k of n places are held, the first ones
 abbrev filled : ℕ → ℕ → List Bool
@@ -55,8 +55,8 @@ module _ (p : ℕ → Bool) (n : ℕ) where
       rw (one-step x k (p x) refl (omega arith), z) (all-steps ns (k + pick (p x) 1 0) (omega arith))
 
   -- the lowest free place is the one after as many as were taken
-  pub lowest-taken : (ns : List ℕ) → total (λ x. pick (p x) 1 0) ns ≤ n → lowest_free_of (held_after p n ns) n ≡ total (λ x. pick (p x) 1 0) ns
-  unfolding held_after
+  pub lowest-taken : (ns : List ℕ) → total (λ x. pick (p x) 1 0) ns ≤ n → lowest_free_of (taken p n ns) n ≡ total (λ x. pick (p x) 1 0) ns
+  unfolding taken
   lowest-taken ns h =
       let e = all-steps ns 0 (omega arith) in
       let z : 0 + total (λ x. pick (p x) 1 0) ns ≡ total (λ x. pick (p x) 1 0) ns = omega arith in

@@ -5,12 +5,11 @@ use mathlib.Core.Bool.{Bool, true, false, not}
 use borrow.Author.Tests.{lt-ltb, le-ltb, le-leb, lt-leb, ltb-true, ltb-false, leb-true}
 use lib.Dec.{ltb, eqb}
 use Rattle.words.specs.Sizes.{SLICE_SIZE}
-use Rattle.words.specs.Pieces.{is_small}
 use Rattle.words.specs.Choice.{pick}
 use Rattle.words.proofs.Tables.{clash}
 use Rattle.channel.specs.Settings.{small_len_of, lane_len_of, lanes_len_of, stores_hold_of}
 use Rattle.channel.proofs.Good.{stores-room}
-use Rattle.send_unreliable.specs.Sender.{Spot, cell, lane, dropped, refused, entry_refusal, spot_of}
+use Rattle.send_unreliable.specs.Sender.{is_small, Spot, cell, lane, dropped, refused, entry_refusal, spot_of}
 use Rattle.send_unreliable.specs.Steps.{holding}
 use Rattle.send_unreliable.specs.declared.SendChannelUnreliable.{SendChannelUnreliable}
 

@@ -9,7 +9,6 @@ use native.Mathlib.Omega.{arith}
 use borrow.Author.Tests.{lt-ltb, le-ltb, leb-true, leb-false}
 use lib.Dec.{ltb, eqb}
 use lib.ListN.{length}
-use Rattle.words.specs.Pieces.{is_small}
 use Rattle.words.specs.Choice.{pick}
 use Rattle.words.specs.Lists.{lowest_free_of, total}
 use Rattle.words.proofs.Tables.{clash}
@@ -23,15 +22,15 @@ use Rattle.pack.specs.Round.{Sums, sent, refused, went_of, sums}
 use Rattle.pack.specs.declared.Went.{Went}
 use Rattle.pack.proofs.Theorems.{payload-kept}
 use Rattle.pack.proofs.Round.{one-went}
-use Rattle.send_unreliable.specs.Sender.{empty_of, waiting, Valid, available, can_send_of, MadeGives, Spot, cell, lane, dropped, entry_refusal, spot_of, state_at, QueueAnswer, waits, drops, refusing, queue_of, answer_at, small_at_of, lanes_at, QueueGives}
+use Rattle.send_unreliable.specs.Sender.{empty_of, waiting, is_small, Valid, available, can_send_of, MadeGives, Spot, cell, lane, dropped, entry_refusal, spot_of, state_at, Outcome, taken, drop, refusing, queue_of, answer_at, small_at_of, lanes_at, QueueGives}
 use Rattle.send_unreliable.specs.Sender as sender
 use Rattle.send_unreliable.specs.Round.{Given, pieces_from, go, starting, select, packs, lent, RoundGives}
 use Rattle.send_unreliable.specs.Round as rounds
 use Rattle.send_unreliable.specs.Laws.{cells_taken, lanes_taken}
 use Rattle.send_unreliable.specs.declared.SendChannelUnreliable.{SendChannelUnreliable}
 use Rattle.send_unreliable.specs.declared.Made.{Made}
-use Rattle.send_unreliable.specs.declared.Enqueue.{Enqueue}
-use Rattle.send_unreliable.specs.declared.Enqueue.TheVariants as queue
+use Rattle.send_unreliable.specs.declared.Queue.{Queue}
+use Rattle.send_unreliable.specs.declared.Queue.TheVariants as queue
 use Rattle.send_unreliable.specs.declared.Queued.{Queued}
 use Rattle.send_unreliable.specs.declared.Round.{Round}
 use Rattle.send_unreliable.proofs.Lists.{total-same}
@@ -132,7 +131,7 @@ module _ (s : SendChannelUnreliable) (g : Given) (out table out' table' : List �
 
 -- ---- a message that is not taken changes no state and no byte
 
-spot-kept : (s : SendChannelUnreliable) (msg small lanes : List ℕ) (spot : Spot) → (answer_at spot ≡ waits → ⊥)
+spot-kept : (s : SendChannelUnreliable) (msg small lanes : List ℕ) (spot : Spot) → (answer_at spot ≡ taken → ⊥)
     → (state_at s (length msg) spot ≡ s) × (small_at_of s spot msg small ≡ small) × (lanes_at s spot msg lanes ≡ lanes)
 spot-kept s msg small lanes cell n = absurd (n refl)
 spot-kept s msg small lanes lane n = absurd (n refl)
@@ -140,19 +139,19 @@ spot-kept s msg small lanes dropped n = (refl, refl, refl)
 spot-kept s msg small lanes (sender.refused e) n = (refl, refl, refl)
 
 pub message-not-taken : (s : SendChannelUnreliable) (msg small lanes small' lanes' : List ℕ) (r : Queued) → QueueGives s msg small lanes small' lanes' r
-    → (queue_of r.answer ≡ waits → ⊥) → (r.state ≡ s) × (small' ≡ small) × (lanes' ≡ lanes)
+    → (queue_of r.answer ≡ taken → ⊥) → (r.state ≡ s) × (small' ≡ small) × (lanes' ≡ lanes)
 message-not-taken s msg small lanes small' lanes' r g n =
     let k = spot-kept s msg small lanes (spot_of s (length msg) (length small) (length lanes)) (λ e. n (g.answer ∙ e)) in
     (g.state ∙ k.0, g.small-store ∙ k.1, g.lane-store ∙ k.2)
 
 -- ---- one outcome only; the other calls' promises are equations of their answer
 
-abbrev queue_from : QueueAnswer → Enqueue
-queue_from waits = queue.Taken
-queue_from drops = queue.Dropped
+abbrev queue_from : Outcome → Queue
+queue_from taken = queue.Taken
+queue_from drop = queue.Dropped
 queue_from (refusing n) = queue.Refused (refusal_of n)
 
-queue-undone : (a : Enqueue) → queue_from (queue_of a) ≡ a
+queue-undone : (a : Queue) → queue_from (queue_of a) ≡ a
 queue-undone queue.Taken = refl
 queue-undone queue.Dropped = refl
 queue-undone (queue.Refused e) = ap queue.Refused (refusal-undone e)
@@ -165,7 +164,7 @@ one-made channel s r q x y =
 pub one-queued : (s : SendChannelUnreliable) (msg small lanes small₁ lanes₁ small₂ lanes₂ : List ℕ) (r q : Queued)
     → QueueGives s msg small lanes small₁ lanes₁ r → QueueGives s msg small lanes small₂ lanes₂ q → (r ≡ q) × (small₁ ≡ small₂) × (lanes₁ ≡ lanes₂)
 one-queued s msg small lanes small₁ lanes₁ small₂ lanes₂ r q x y = (
-  ap (λ (b : Enqueue). record { answer = b; state = r.state }) (told-apart queue_of queue_from queue-undone r.answer q.answer (x.answer ∙ sym y.answer))
+  ap (λ (b : Queue). record { answer = b; state = r.state }) (told-apart queue_of queue_from queue-undone r.answer q.answer (x.answer ∙ sym y.answer))
       ∙ ap (λ (u : SendChannelUnreliable). record { answer = q.answer; state = u }) (x.state ∙ sym y.state),
   x.small-store ∙ sym y.small-store,
   x.lane-store ∙ sym y.lane-store,

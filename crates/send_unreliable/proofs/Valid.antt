@@ -8,13 +8,12 @@ use native.Mathlib.Numerals.{add-one}
 use lib.ListN.{length-set}
 use lib.Seq.{take-suc-set, get_or-set_other}
 use Rattle.words.specs.Sizes.{LIMIT}
-use Rattle.words.specs.Pieces.{is_small}
 use Rattle.words.specs.Choice.{pick}
 use Rattle.words.specs.Lists.{total, All}
 use Rattle.words.proofs.Lists.{total-snoc, all_snoc}
 use Rattle.channel.specs.Settings.{Good, lane_len_of}
 use Rattle.channel.specs.declared.Settings.{Settings}
-use Rattle.send_unreliable.specs.Sender.{ROWS, empty_of, waiting, Valid, queued}
+use Rattle.send_unreliable.specs.Sender.{ROWS, empty_of, waiting, is_small, Valid, queued}
 use Rattle.send_unreliable.specs.Steps.{small_one, sliced_one}
 use Rattle.send_unreliable.specs.declared.SendChannelUnreliable.{SendChannelUnreliable}
 use Rattle.send_unreliable.proofs.Lists.{get_or-blank}

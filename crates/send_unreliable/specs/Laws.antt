@@ -1,14 +1,13 @@
 -- What the laws speak of: cells and lanes taken from the lowest on, and queued messages as they lie in the stores. Assumes nothing.
 use Rattle.std.specs.Prelude.{ℕ, ◌+◌, ◌-◌, ◌*◌, ◌≡◌, Bool, true, false, not, List, [], ◌∷◌, map, length, set, take, drop, replicate, ltb}
 use Rattle.words.specs.Sizes.{SLICE_SIZE}
-use Rattle.words.specs.Pieces.{is_small}
 use Rattle.words.specs.Choice.{pick}
 use Rattle.words.specs.Lists.{lowest_free_of, reached}
 use Rattle.channel.specs.Settings.{lane_len_of}
 use Rattle.channel.specs.declared.Settings.{Settings}
 use Rattle.pack.specs.Pack.{Item}
 use Rattle.pack.specs.Pack as packing
-use Rattle.send_unreliable.specs.Sender.{waiting}
+use Rattle.send_unreliable.specs.Sender.{waiting, is_small}
 use Rattle.send_unreliable.specs.declared.SendChannelUnreliable.{SendChannelUnreliable}
 
 -- ---- the lowest free cell or lane is taken
@@ -17,15 +16,15 @@ abbrev pub take_lowest : List Bool → List Bool
 take_lowest held = set held (lowest_free_of held (length held)) true
 
 -- n places, all free at first, of which each message that passes the test took the lowest free one
-unfoldable pub held_after : (ℕ → Bool) → ℕ → List ℕ → List Bool
-held_after p n ns = reached (λ held x. pick (p x) (take_lowest held) held) (replicate n false) ns
+unfoldable pub taken : (ℕ → Bool) → ℕ → List ℕ → List Bool
+taken p n ns = reached (λ held x. pick (p x) (take_lowest held) held) (replicate n false) ns
 
 -- the cells and the lanes that the waiting messages hold, since a round frees them all at once
 abbrev pub cells_taken : SendChannelUnreliable → List Bool
-cells_taken s = held_after is_small s.settings.slots (waiting s)
+cells_taken s = taken is_small s.settings.slots (waiting s)
 
 abbrev pub lanes_taken : SendChannelUnreliable → List Bool
-lanes_taken s = held_after (λ n. not (is_small n)) s.settings.lanes (waiting s)
+lanes_taken s = taken (λ n. not (is_small n)) s.settings.lanes (waiting s)
 
 -- ---- the queued messages in the stores
 

@@ -2,7 +2,7 @@
 -- others go once. 10, 13 of the given sequence, 13 of numbers that it would need, 15. Assumes nothing.
 use Rattle.std.specs.Prelude.{ℕ, zero, suc, ◌+◌, ◌-◌, ◌*◌, ◌≡◌, false, not, List, [], ◌∷◌, ◌++◌, length, ltb, leb, eqb}
 use Rattle.words.specs.Sizes.{SLICE_SIZE, LIMIT}
-use Rattle.words.specs.Pieces.{is_small, pieces_of, piece_len_of}
+use Rattle.words.specs.Pieces.{pieces_of, piece_len_of}
 use Rattle.words.specs.Choice.{pick, refusal}
 use Rattle.words.specs.Lists.{reached}
 use Rattle.channel.specs.Settings.{stores_hold_of, lane_len_of}
@@ -12,7 +12,7 @@ use Rattle.pack.specs.Encode.{Lent, round_refusal}
 use Rattle.pack.specs.Round.{Gives}
 use Rattle.send_unreliable.specs.declared.SendChannelUnreliable.{SendChannelUnreliable}
 use Rattle.send_unreliable.specs.declared.Round.{Round}
-use Rattle.send_unreliable.specs.Sender.{empty_of, waiting, Valid}
+use Rattle.send_unreliable.specs.Sender.{empty_of, waiting, is_small, Valid}
 
 -- what a round is given: its first sequence, the allowance and the two stores
 pub record Given : Type 0 where

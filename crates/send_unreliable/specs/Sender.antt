@@ -1,7 +1,6 @@
 -- The sending end of an unreliable channel: its state, and queueing. Document 01, part 5: 10, 12, Dropped, 11. Assumes nothing.
 use Rattle.std.specs.Prelude.{ℕ, ◌+◌, ◌-◌, ◌*◌, ◌≤◌, ◌≡◌, Bool, not, List, [], ◌∷◌, length, get_or, set, take, replicate, ltb, leb, eqb}
 use Rattle.words.specs.Sizes.{SLICE_SIZE, SLOTS, LANES, LIMIT}
-use Rattle.words.specs.Pieces.{is_small}
 use Rattle.words.specs.Choice.{pick, refusal}
 use Rattle.words.specs.Lists.{splice, total, All}
 use Rattle.words.specs.Refusal.{number_of}
@@ -9,8 +8,8 @@ use Rattle.channel.specs.Settings.{settings_refusal, setup_number, Good, least_s
 use Rattle.channel.specs.declared.Settings.{Settings}
 use Rattle.send_unreliable.specs.declared.SendChannelUnreliable.{SendChannelUnreliable}
 use Rattle.send_unreliable.specs.declared.Made.{Made}
-use Rattle.send_unreliable.specs.declared.Enqueue.{Enqueue}
-use Rattle.send_unreliable.specs.declared.Enqueue.TheVariants as queue
+use Rattle.send_unreliable.specs.declared.Queue.{Queue}
+use Rattle.send_unreliable.specs.declared.Queue.TheVariants as queue
 use Rattle.send_unreliable.specs.declared.Queued.{Queued}
 
 abbrev pub ROWS : ℕ
@@ -37,6 +36,9 @@ empty_of channel s id =
 abbrev pub waiting : SendChannelUnreliable → List ℕ
 waiting s = take s.count s.lens
 
+abbrev pub is_small : ℕ → Bool
+is_small n = leb n SLICE_SIZE
+
 pub record Valid (s : SendChannelUnreliable) : Type 0 where
   pub settings : Good s.settings
   pub id-most : s.sliced_message_id ≤ LIMIT
@@ -60,7 +62,7 @@ can_send_of s n = leb (s.memory_usage_bytes + n) s.settings.max_memory_usage_byt
 
 pub record MadeGives (channel : ℕ) (s : Settings) (r : Made) : Type 0 where
   pub number : setup_number r.answer ≡ settings_refusal s
-  pub state : r.state ≡ empty_of channel (pick (eqb (settings_refusal s) 0) s least_settings) 0
+  pub state : r.state ≡ pick (eqb (settings_refusal s) 0) (empty_of channel s 0) (empty_of 0 least_settings 0)
   pub valid : Valid r.state
 
 -- ---- queueing
@@ -107,20 +109,20 @@ state_at s n lane = queued s n s.small (s.sliced + 1)
 state_at s n dropped = s
 state_at s n (refused e) = s
 
-pub data QueueAnswer : Type 0 where
-  waits : QueueAnswer
-  drops : QueueAnswer
-  refusing : ℕ → QueueAnswer
+pub data Outcome : Type 0 where
+  taken : Outcome
+  drop : Outcome
+  refusing : ℕ → Outcome
 
-abbrev pub queue_of : Enqueue → QueueAnswer
-queue_of queue.Taken = waits
-queue_of queue.Dropped = drops
+abbrev pub queue_of : Queue → Outcome
+queue_of queue.Taken = taken
+queue_of queue.Dropped = drop
 queue_of (queue.Refused e) = refusing (number_of e)
 
-abbrev pub answer_at : Spot → QueueAnswer
-answer_at cell = waits
-answer_at lane = waits
-answer_at dropped = drops
+abbrev pub answer_at : Spot → Outcome
+answer_at cell = taken
+answer_at lane = taken
+answer_at dropped = drop
 answer_at (refused e) = refusing e
 
 -- the message at the front of its cell, or of its lane; no other byte changes

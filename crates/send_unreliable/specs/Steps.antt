@@ -1,14 +1,13 @@
 -- What the private functions give. Assumes nothing.
 use Rattle.std.specs.Prelude.{ℕ, ◌+◌, ◌*◌, ◌≤◌, List, [], length}
 use Rattle.words.specs.Sizes.{PIECES, LIMIT}
-use Rattle.words.specs.Pieces.{is_small}
 use Rattle.words.specs.Choice.{pick}
 use Rattle.words.specs.Lists.{total, All}
 use Rattle.words.specs.Refusal.{number_of}
 use Rattle.channel.specs.Settings.{lane_len_of}
 use Rattle.channel.specs.declared.Settings.{Settings}
 use Rattle.pack.specs.Pack.{items_in}
-use Rattle.send_unreliable.specs.Sender.{Spot, cell, lane, dropped, refused}
+use Rattle.send_unreliable.specs.Sender.{is_small, Spot, cell, lane, dropped, refused}
 use Rattle.send_unreliable.specs.Round.{Chosen}
 use Rattle.send_unreliable.specs.declared.SendChannelUnreliable.{SendChannelUnreliable}
 use Rattle.send_unreliable.specs.declared.Place.{Place}

@@ -32,7 +32,6 @@ pub struct SendChannelUnreliable {
     lens: [usize; ROWS],
 }
 
-// A call that changes the state returns the answer beside it, in a struct named by a participle.
 #[derive(Drop)]
 pub struct Made {
     pub answer: Setup,
@@ -41,7 +40,7 @@ pub struct Made {
 
 // What came of a message: it waits, it was dropped for want of memory, or it was refused.
 #[derive(Drop)]
-pub enum Enqueue {
+pub enum Queue {
     Taken,
     Dropped,
     Refused(Refusal),
@@ -49,7 +48,7 @@ pub enum Enqueue {
 
 #[derive(Drop)]
 pub struct Queued {
-    pub answer: Enqueue,
+    pub answer: Queue,
     pub state: SendChannelUnreliable,
 }
 
@@ -85,11 +84,29 @@ impl SendChannelUnreliable {
     pub fn new(channel_id: u8, settings: Settings) -> Made
         ensures { MadeGives channel_id settings result }
     {
-        let settled = settings.settle();
-        let answer = settled.answer;
-        let used = settled.settings;
-        let state = SendChannelUnreliable::empty(channel_id, used, 0);
-        Made { answer, state }
+        let answer = settings.judge();
+        match answer {
+            Setup::Ready => {
+                let state = SendChannelUnreliable::empty(channel_id, settings, 0);
+                Made {
+                    answer: Setup::Ready,
+                    state,
+                }
+            }
+            Setup::Refused(e) => {
+                let least = Settings {
+                    slots: 1,
+                    lanes: 1,
+                    pieces: 1,
+                    max_memory_usage_bytes: 0,
+                };
+                let state = SendChannelUnreliable::empty(0, least, 0);
+                Made {
+                    answer: Setup::Refused(e),
+                    state,
+                }
+            }
+        }
     }
 
     // Whether a message of this size would not be dropped for want of memory.
@@ -132,7 +149,7 @@ impl SendChannelUnreliable {
                 words::write_bytes(small, k * SLICE_SIZE, message);
                 let state = self.with_message(n, k + 1, l);
                 Queued {
-                    answer: Enqueue::Taken,
+                    answer: Queue::Taken,
                     state,
                 }
             }
@@ -140,16 +157,16 @@ impl SendChannelUnreliable {
                 words::write_bytes(lanes, l * (settings.pieces * SLICE_SIZE), message);
                 let state = self.with_message(n, k, l + 1);
                 Queued {
-                    answer: Enqueue::Taken,
+                    answer: Queue::Taken,
                     state,
                 }
             }
             Place::Dropped => Queued {
-                answer: Enqueue::Dropped,
+                answer: Queue::Dropped,
                 state: self,
             },
             Place::Refused(e) => Queued {
-                answer: Enqueue::Refused(e),
+                answer: Queue::Refused(e),
                 state: self,
             },
         }
@@ -365,7 +382,7 @@ fn put_slices(items: &mut [u64], first: usize, id: u64, len: usize, place: usize
     let mut i = 0;
     while i < num {
         let start = place + i * SLICE_SIZE;
-        let size = pack::piece_len(len, i);
+        let size = pack::slice_len(len, i);
         pack::put_item(
             items,
             first + i,

@@ -1,30 +1,20 @@
 // All ends of a session, and the calls on them, each with its own part of the memory.
 ghost use Rattle.session.specs.Sound.{Sound};
 ghost use Rattle.slice_constructor.specs.Collect.{Valid};
-ghost use Rattle.pending_acks.specs.Gather as acks;
-ghost use Rattle.meter.specs.Meter as meter;
 ghost use Rattle.session_send.specs.Sound as send;
 ghost use Rattle.session_receive.specs.Sound as receive;
-ghost use Rattle.window.specs.Window as windows;
 
 use answers::Call;
-use meter::Meter;
-use pending_acks::PendingAcks;
 use session_receive::Receivers;
 use session_send::Senders;
-use window::Window;
 
 // The end that a line names: of two senders or receivers, whether it is the reliable one.
 #[derive(Drop)]
 pub enum Which {
     Wire,
     Sc,
-    Acks,
     Send(bool),
     Receive(bool),
-    Meter,
-    Window,
-    Record,
     Nothing,
 }
 
@@ -32,11 +22,8 @@ pub enum Which {
 pub struct Ends {
     pub wire: session_wire::Lent,
     pub sc: session_sc::End,
-    pub acks: PendingAcks,
     pub senders: Senders,
     pub receivers: Receivers,
-    pub meter: Meter,
-    pub window: Window,
 }
 
 // The ends after a call, and the place after its answer.
@@ -52,11 +39,8 @@ pub fn start() -> Ends
     Ends {
         wire: session_wire::start(),
         sc: session_sc::start(),
-        acks: session_acks::start(),
         senders: session_send::start(),
         receivers: session_receive::start(),
-        meter: session_meter::start(),
-        window: session_window::start(),
     }
 }
 
@@ -81,16 +65,12 @@ pub fn answer(
     match which {
         Which::Wire => wire(ends, c, numbers, bytes, out, messages, ranges, page),
         Which::Sc => collect(ends, c, numbers, bytes, lanes, page),
-        Which::Acks => gather(ends, c, numbers, out, page),
         Which::Send(reliable) => send(
             ends, reliable, c, numbers, bytes, small, lanes, out, table, messages, ranges, page,
         ),
         Which::Receive(reliable) => receive(
             ends, reliable, c, numbers, bytes, out, table, messages, ranges, small, lanes, page,
         ),
-        Which::Meter => measure(ends, c, numbers, page),
-        Which::Window => queue(ends, c, numbers, page),
-        Which::Record => recorded(ends, c, numbers, bytes, out, messages, page),
         Which::Nothing => Told { ends, at: c.at },
     }
 }
@@ -152,18 +132,6 @@ fn collect(
         c.at,
     );
     with_sc(ends, t)
-}
-
-// Calls the gatherer of acks. Its packets go to the lent bytes of the codec.
-fn gather(ends: Ends, c: Call, numbers: &[u64], out: &mut [u8], page: &mut [u8]) -> Told
-    requires { Sound ends }
-    ensures { Sound result.ends }
-{
-    let own = memory::bytes_span(out, memory::WIRE_OUT, ends.wire.out);
-    let a = own.start;
-    let b = own.end;
-    let t = session_acks::call(acks_of(ends), c.k, numbers, &mut out[a..b], page, c.at);
-    with_acks(ends, t)
 }
 
 // Calls a sender.
@@ -239,66 +207,12 @@ fn receive(
     with_receivers(ends, t)
 }
 
-// Calls the delay meter.
-fn measure(ends: Ends, c: Call, numbers: &[u64], page: &mut [u8]) -> Told
-    requires { Sound ends }
-    ensures { Sound result.ends }
-{
-    let t = session_meter::call(meter_of(ends), c.k, numbers, page, c.at);
-    with_meter(ends, t)
-}
-
-// Calls the window.
-fn queue(ends: Ends, c: Call, numbers: &[u64], page: &mut [u8]) -> Told
-    requires { Sound ends }
-    ensures { Sound result.ends }
-{
-    let t = session_window::call(window_of(ends), c.k, numbers, page, c.at);
-    with_window(ends, t)
-}
-
-// Calls the session record, which lies in the bytes of the codec and is read into its table of messages, as they are lent.
-fn recorded(
-    ends: Ends,
-    c: Call,
-    numbers: &[u64],
-    bytes: &[u8],
-    out: &mut [u8],
-    messages: &mut [u64],
-    page: &mut [u8],
-) -> Told
-    requires { Sound ends }
-    ensures { Sound result.ends }
-{
-    let own = memory::bytes_span(out, memory::WIRE_OUT, ends.wire.out);
-    let a = own.start;
-    let b = own.end;
-    let m = page::words_part(ends.wire.messages, messages);
-    let at = session_record::call(
-        c.k,
-        numbers,
-        bytes,
-        &mut messages[..m],
-        &mut out[a..b],
-        page,
-        c.at,
-    );
-    Told { ends, at }
-}
-
 // The parts of sound ends, and sound ends with another part.
 fn sc_of(ends: Ends) -> session_sc::End
     requires { Sound ends }
     ensures { Valid result.state }
 {
     ends.sc
-}
-
-fn acks_of(ends: Ends) -> PendingAcks
-    requires { Sound ends }
-    ensures { acks.Valid result }
-{
-    ends.acks
 }
 
 fn senders_of(ends: Ends) -> Senders
@@ -313,20 +227,6 @@ fn receivers_of(ends: Ends) -> Receivers
     ensures { receive.Sound result }
 {
     ends.receivers
-}
-
-fn meter_of(ends: Ends) -> Meter
-    requires { Sound ends }
-    ensures { meter.Valid result }
-{
-    ends.meter
-}
-
-fn window_of(ends: Ends) -> Window
-    requires { Sound ends }
-    ensures { windows.Valid result }
-{
-    ends.window
 }
 
 fn with_wire(mut ends: Ends, t: session_wire::Told) -> Told
@@ -348,16 +248,6 @@ fn with_sc(mut ends: Ends, t: session_sc::Told) -> Told
     Told { ends, at: t.at }
 }
 
-fn with_acks(mut ends: Ends, t: session_acks::Told) -> Told
-    requires sound { Sound ends }
-    requires valid { acks.Valid t.end }
-    ensures { Sound result.ends }
-{
-    let end = t.end;
-    ends.acks = end;
-    Told { ends, at: t.at }
-}
-
 fn with_senders(mut ends: Ends, t: session_send::Told) -> Told
     requires sound { Sound ends }
     requires sound_2 { send.Sound t.senders }
@@ -375,25 +265,5 @@ fn with_receivers(mut ends: Ends, t: session_receive::Told) -> Told
 {
     let receivers = t.receivers;
     ends.receivers = receivers;
-    Told { ends, at: t.at }
-}
-
-fn with_meter(mut ends: Ends, t: session_meter::Told) -> Told
-    requires sound { Sound ends }
-    requires valid { meter.Valid t.meter }
-    ensures { Sound result.ends }
-{
-    let meter = t.meter;
-    ends.meter = meter;
-    Told { ends, at: t.at }
-}
-
-fn with_window(mut ends: Ends, t: session_window::Told) -> Told
-    requires sound { Sound ends }
-    requires valid { windows.Valid t.window }
-    ensures { Sound result.ends }
-{
-    let window = t.window;
-    ends.window = window;
     Told { ends, at: t.at }
 }

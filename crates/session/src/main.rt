@@ -288,9 +288,6 @@ fn which_of(name: &[u8]) -> Which {
     if script::is(name, b"sc") {
         return Which::Sc;
     }
-    if script::is(name, b"acks") {
-        return Which::Acks;
-    }
     if script::is(name, b"sr") {
         return Which::Send(true);
     }
@@ -303,15 +300,6 @@ fn which_of(name: &[u8]) -> Which {
     if script::is(name, b"ru") {
         return Which::Receive(false);
     }
-    if script::is(name, b"meter") {
-        return Which::Meter;
-    }
-    if script::is(name, b"window") {
-        return Which::Window;
-    }
-    if script::is(name, b"record") {
-        return Which::Record;
-    }
     Which::Nothing
 }
 
@@ -319,12 +307,8 @@ fn read(which: Which, s: &[u8], from: usize, numbers: &mut [u64], bytes: &mut [u
     match which {
         Which::Wire => session_wire::read(s, from, numbers, bytes),
         Which::Sc => session_sc::read(s, from, numbers, bytes),
-        Which::Acks => session_acks::read(s, from, numbers, bytes),
         Which::Send(reliable) => session_send::read(reliable, s, from, numbers, bytes),
         Which::Receive(reliable) => session_receive::read(reliable, s, from, numbers, bytes),
-        Which::Meter => session_meter::read(s, from, numbers, bytes),
-        Which::Window => session_window::read(s, from, numbers, bytes),
-        Which::Record => session_record::read(s, from, numbers, bytes),
         Which::Nothing => Read::NoEnd,
     }
 }

@@ -42,28 +42,20 @@ struct Turn {
     at: usize,
 }
 
-// Where a message is: in the small store or in the lanes, at a place, and so long.
-#[derive(Drop)]
-struct Place {
-    small: bool,
-    at: usize,
-    len: usize,
-}
-
-// What a call answers. A message of the reliable receiver has an id.
+// What a call answers. A message is in the small store or in the lanes, at a place, and so long; one of
+// the reliable receiver has an id before that.
 #[derive(Drop)]
 enum Answer {
     Ready,
     Taken,
-    TakenPiece { missing: usize, of: u64 },
     Ignored,
     Dropped,
     Discarded(usize),
     Nothing,
-    Ordered { id: u64, place: Place },
-    Message { place: Place },
-    Lent { small: usize, lanes: usize },
-    Digest { small: u64, lanes: u64 },
+    Ordered(u64, bool, usize, usize),
+    Message(bool, usize, usize),
+    Lent(usize, usize),
+    Digest(u64, u64),
     Usage,
     Refused(Refusal),
 }
@@ -292,7 +284,7 @@ fn called(t: Turn, numbers: &[u64], bytes: &[u8], small: &mut [u8], lanes: &mut 
         DIGEST => {
             let a = say::digest_bytes(small);
             let b = say::digest_bytes(lanes);
-            same(t, Answer::Digest { small: a, lanes: b })
+            same(t, Answer::Digest(a, b))
         }
         7 => same(t, Answer::Usage),
         10 => discard(t, page::word(numbers, 0)),
@@ -324,7 +316,7 @@ fn ordered(t: Turn, numbers: &[u64], bytes: &[u8], small: &mut [u8], lanes: &mut
             let num_slices = page::word(numbers, 2);
             let a = state.process_slice(id, index, num_slices, bytes, small, lanes);
             let answer = a.answer;
-            with_reliable(t, a.state, ordered_piece(answer, num_slices))
+            with_reliable(t, a.state, ordered_arrival(answer))
         }
         LOOK => same(t, ordered_look(state.look(small, lanes))),
         _ => {
@@ -355,7 +347,7 @@ fn unordered(t: Turn, numbers: &[u64], bytes: &[u8], small: &mut [u8], lanes: &m
             let time = page::word(numbers, 3);
             let a = state.process_slice(id, index, num_slices, bytes, time, small, lanes);
             let answer = a.answer;
-            with_unreliable(t, a.state, piece(answer, num_slices))
+            with_unreliable(t, a.state, arrival(answer))
         }
         LOOK => same(t, next_look(state.look(small, lanes))),
         _ => {
@@ -382,41 +374,14 @@ fn arrival(a: receive_unreliable::Arrival) -> Answer {
     }
 }
 
-// The same of a piece: one that was taken tells how many of its message's pieces are missing.
-fn ordered_piece(a: receive_reliable::SliceArrival, of: u64) -> Answer {
-    match a {
-        receive_reliable::SliceArrival::Taken { missing } => Answer::TakenPiece { missing, of },
-        receive_reliable::SliceArrival::Ignored => Answer::Ignored,
-        receive_reliable::SliceArrival::Refused(e) => Answer::Refused(e),
-    }
-}
-
-fn piece(a: receive_unreliable::SliceArrival, of: u64) -> Answer {
-    match a {
-        receive_unreliable::SliceArrival::Taken { missing } => Answer::TakenPiece { missing, of },
-        receive_unreliable::SliceArrival::Dropped => Answer::Dropped,
-        receive_unreliable::SliceArrival::Refused(e) => Answer::Refused(e),
-    }
-}
-
 fn ordered_look(l: receive_reliable::Look) -> Answer {
     match l {
         receive_reliable::Look::Nothing => Answer::Nothing,
         receive_reliable::Look::Refused(e) => Answer::Refused(e),
-        receive_reliable::Look::Message {
-            id,
-            store,
-            place,
-            len,
-        } => {
-            let small = match store {
-                receive_reliable::Store::Small => true,
-                receive_reliable::Store::Lanes => false,
-            };
-            let at = place;
-            let place = Place { small, at, len };
-            Answer::Ordered { id: id.0, place }
-        }
+        receive_reliable::Look::Message(id, store, place, len) => match store {
+            receive_reliable::Store::Small => Answer::Ordered(id.0, true, place, len),
+            receive_reliable::Store::Lanes => Answer::Ordered(id.0, false, place, len),
+        },
     }
 }
 
@@ -424,15 +389,10 @@ fn next_look(l: receive_unreliable::Look) -> Answer {
     match l {
         receive_unreliable::Look::Nothing => Answer::Nothing,
         receive_unreliable::Look::Refused(e) => Answer::Refused(e),
-        receive_unreliable::Look::Message { store, place, len } => {
-            let small = match store {
-                receive_unreliable::Store::Small => true,
-                receive_unreliable::Store::Lanes => false,
-            };
-            let at = place;
-            let place = Place { small, at, len };
-            Answer::Message { place }
-        }
+        receive_unreliable::Look::Message(store, place, len) => match store {
+            receive_unreliable::Store::Small => Answer::Message(true, place, len),
+            receive_unreliable::Store::Lanes => Answer::Message(false, place, len),
+        },
     }
 }
 
@@ -513,7 +473,7 @@ fn discard(t: Turn, current_time: u64) -> Answered
     let d = state.discard_incomplete_old_slices(current_time);
     let answer = d.answer;
     match answer {
-        Discard::Done(n) => with_unreliable(t, d.state, Answer::Discarded(n)),
+        Discard::Discarded(n) => with_unreliable(t, d.state, Answer::Discarded(n)),
         Discard::Refused(e) => with_unreliable(t, d.state, Answer::Refused(e)),
     }
 }
@@ -529,11 +489,11 @@ fn lend(mut t: Turn, numbers: &[u64]) -> Answered
     if t.reliable {
         r.reliable_lent = lent;
         t.receivers = r;
-        return same(t, Answer::Lent { small, lanes });
+        return same(t, Answer::Lent(small, lanes));
     }
     r.unreliable_lent = lent;
     t.receivers = r;
-    same(t, Answer::Lent { small, lanes })
+    same(t, Answer::Lent(small, lanes))
 }
 
 fn at_most(most: usize, n: usize) -> usize
@@ -582,30 +542,22 @@ fn say_answer(page: &mut [u8], at: usize, a: Answer, s: &[u8]) -> usize {
     match a {
         Answer::Ready => page::text(page, at, b"ready; "),
         Answer::Taken => page::text(page, at, b"taken; "),
-        Answer::TakenPiece { missing, of } => {
-            page::line(page, at, b"taken, # of # missing; ", &[missing as u64, of])
-        }
         Answer::Ignored => page::text(page, at, b"ignored; "),
         Answer::Dropped => page::text(page, at, b"dropped; "),
         Answer::Discarded(n) => page::line(page, at, b"discarded #; ", &[n as u64]),
         Answer::Nothing => page::text(page, at, b"nothing; "),
-        Answer::Ordered { id, place } => {
+        Answer::Ordered(id, small, place, len) => {
             let b = page::line(page, at, b"message id # in ", &[id]);
-            say_message(page, b, place, s)
+            say_message(page, b, small, place, len, s)
         }
-        Answer::Message { place } => {
+        Answer::Message(small, place, len) => {
             let b = page::text(page, at, b"message in ");
-            say_message(page, b, place, s)
+            say_message(page, b, small, place, len, s)
         }
-        Answer::Lent { small, lanes } => page::line(
-            page,
-            at,
-            b"lent small # lanes #; ",
-            &[small as u64, lanes as u64],
-        ),
-        Answer::Digest { small, lanes } => {
-            page::line(page, at, b"small # lanes #; ", &[small, lanes])
+        Answer::Lent(n, m) => {
+            page::line(page, at, b"lent small # lanes #; ", &[n as u64, m as u64])
         }
+        Answer::Digest(n, m) => page::line(page, at, b"small # lanes #; ", &[n, m]),
         Answer::Usage => at,
         Answer::Refused(e) => {
             let b = page::refusal(page, at, e);
@@ -614,9 +566,16 @@ fn say_answer(page: &mut [u8], at: usize, a: Answer, s: &[u8]) -> usize {
     }
 }
 
-fn say_message(page: &mut [u8], at: usize, m: Place, s: &[u8]) -> usize {
-    let a = say_store(page, at, m.small);
-    let b = page::line(page, a, b" at # length # ", &[m.at as u64, m.len as u64]);
+fn say_message(
+    page: &mut [u8],
+    at: usize,
+    small: bool,
+    place: usize,
+    len: usize,
+    s: &[u8],
+) -> usize {
+    let a = say_store(page, at, small);
+    let b = page::line(page, a, b" at # length # ", &[place as u64, len as u64]);
     let c = page::bytes(page, b, s);
     page::text(page, c, b"; ")
 }

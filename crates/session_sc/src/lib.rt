@@ -156,9 +156,9 @@ fn slice(e: End, index: u64, bytes: &[u8], lane: &mut [u8], page: &mut [u8], at:
 
 fn say_collect(page: &mut [u8], at: usize, c: Collect, lane: &[u8]) -> usize {
     match c {
-        Collect::More { missing } => page::line(page, at, b"more, # missing", &[missing as u64]),
+        Collect::More => page::text(page, at, b"more"),
         Collect::Refused(why) => page::refusal(page, at, why),
-        Collect::Whole { len } => {
+        Collect::Whole(len) => {
             let a = page::line(page, at, b"whole # ", &[len as u64]);
             page::bytes(page, a, packets::bytes_at(lane, 0, len))
         }

@@ -7,5 +7,5 @@ use Rattle.script.specs.Ascii.{ascii}
 unfoldable pub calls_of : Bool → List ℕ
 calls_of reliable =
     pick reliable
-    (ascii "new cnnnnn send b round nnn available - can-send n lend SLOT digest - usage - ack n ack-slice nn oldest -")
+    (ascii "new cnnnnn send b round nnn available - can-send n lend SLOT digest - usage - ack n ack-slice nn")
     (ascii "new cnnnn send b round nn available - can-send n lend SLOT digest - usage -")

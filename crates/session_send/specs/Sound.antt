@@ -1,8 +1,8 @@
 -- The two senders of a script, as their libraries made and left them, and what each is lent. Assumes nothing.
-use Rattle.std.specs.Prelude.{ℕ, ◌≤◌, ◌≡◌, Bool, List, eqb}
+use Rattle.std.specs.Prelude.{ℕ, ◌+◌, ◌≤◌, ◌≡◌, Bool, List, take, drop, eqb}
 use Rattle.words.specs.Choice.{pick}
 use Rattle.memory.specs.Sizes.{SMALL, LANES, OUT, TABLE}
-use Rattle.memory.specs.Memory.{SpanGives, Keeps}
+use Rattle.memory.specs.Memory.{SpanGives}
 use Rattle.send_reliable.specs.Sender as srv
 use Rattle.send_unreliable.specs.Sender as suv
 use Rattle.session_send.specs.declared.Lent.{Lent}
@@ -45,6 +45,10 @@ pub record PartsGive (reliable : Bool) (l : Lent) (smalls all_lanes outs tables 
 -- both are valid, and lent their own. Shut, so that a proof that hands the senders on does not look into them
 unfoldable pub Sound : Senders → Type 0
 Sound s = srv.Valid s.sr × suv.Valid s.su × Own s.sr_lent × Own s.su_lent
+
+-- a memory is as it was but for n from a place on
+unfoldable pub Keeps : ℕ → ℕ → List ℕ → List ℕ → Type 0
+Keeps from n before after = (take from after ≡ take from before) × (drop (from + n) after ≡ drop (from + n) before)
 
 -- after a call the senders are sound, and no memory but what the call sees is changed
 pub record CallGives (reliable : Bool) (seen : Lent) (small small' lanes lanes' out out' table table' : List ℕ) (s : Senders) : Type 0 where

@@ -55,19 +55,8 @@ enum Said {
     Unknown,
     Available(u64),
     Can(bool),
-    Oldest(u64),
-    Lent {
-        small: u64,
-        lanes: u64,
-        out: u64,
-        table: u64,
-    },
-    Digest {
-        small: u64,
-        lanes: u64,
-        out: u64,
-        table: u64,
-    },
+    Lent(u64, u64, u64, u64),
+    Digest(u64, u64, u64, u64),
     Usage,
     Sent(Written),
     Refused(Refusal),
@@ -115,7 +104,7 @@ pub fn read(reliable: bool, line: &[u8], from: usize, numbers: &mut [u64], bytes
 {
     if reliable {
         return arguments::taken_apart(
-            b"new cnnnnn send b round nnn available - can-send n lend SLOT digest - usage - ack n ack-slice nn oldest -",
+            b"new cnnnnn send b round nnn available - can-send n lend SLOT digest - usage - ack n ack-slice nn",
             line,
             from,
             numbers,
@@ -291,7 +280,7 @@ fn made(
     }
 }
 
-// Makes a call that needs no memory. 8 to 10 stand in the reliable sender's list alone.
+// Makes a call that needs no memory. 8 and 9 stand in the reliable sender's list alone.
 fn plain(s: Senders, reliable: bool, k: usize, numbers: &[u64]) -> Done
     requires { Sound s }
     ensures { Sound result.senders }
@@ -307,7 +296,6 @@ fn plain(s: Senders, reliable: bool, k: usize, numbers: &[u64]) -> Done
             MessageId(page::word(numbers, 0)),
             SliceIndex(page::word(numbers, 1)),
         ),
-        10 => unchanged(s, Said::Oldest(oldest(s))),
         _ => unchanged(s, Said::Usage),
     }
 }
@@ -375,12 +363,7 @@ fn lent_by(mut l: Lent, said: Said) -> Lent
     match said {
         Said::Ready => l.packets = 0,
         Said::Sent(w) => l.packets = w.packets,
-        Said::Lent {
-            small,
-            lanes,
-            out,
-            table,
-        } => {
+        Said::Lent(small, lanes, out, table) => {
             l.small = at_most(memory::SMALL, small);
             l.lanes = at_most(memory::LANES, lanes);
             l.out = at_most(memory::OUT, out);
@@ -438,18 +421,18 @@ fn send(s: Senders, reliable: bool, message: &[u8], small: &mut [u8], lanes: &mu
     with_su(s, r.state, queued_or_dropped(answer))
 }
 
-fn queued(q: send_reliable::Enqueue) -> Said {
+fn queued(q: send_reliable::Queue) -> Said {
     match q {
-        send_reliable::Enqueue::Taken(id) => Said::Id(id.0),
-        send_reliable::Enqueue::Refused(why) => Said::Refused(why),
+        send_reliable::Queue::Taken(id) => Said::Id(id.0),
+        send_reliable::Queue::Refused(why) => Said::Refused(why),
     }
 }
 
-fn queued_or_dropped(q: send_unreliable::Enqueue) -> Said {
+fn queued_or_dropped(q: send_unreliable::Queue) -> Said {
     match q {
-        send_unreliable::Enqueue::Taken => Said::Taken,
-        send_unreliable::Enqueue::Dropped => Said::Dropped,
-        send_unreliable::Enqueue::Refused(why) => Said::Refused(why),
+        send_unreliable::Queue::Taken => Said::Taken,
+        send_unreliable::Queue::Dropped => Said::Dropped,
+        send_unreliable::Queue::Refused(why) => Said::Refused(why),
     }
 }
 
@@ -493,12 +476,12 @@ fn went(w: Went) -> Said {
 }
 
 fn digest(small: &[u8], lanes: &[u8], out: &[u8], table: &[u64]) -> Said {
-    Said::Digest {
-        small: say::digest_bytes(small),
-        lanes: say::digest_bytes(lanes),
-        out: say::digest_bytes(out),
-        table: say::digest_words(table),
-    }
+    Said::Digest(
+        say::digest_bytes(small),
+        say::digest_bytes(lanes),
+        say::digest_bytes(out),
+        say::digest_words(table),
+    )
 }
 
 fn ack(s: Senders, id: MessageId) -> Done
@@ -545,13 +528,6 @@ fn can_send(s: Senders, reliable: bool, size: usize) -> bool
     su_of(s).can_send_message(size)
 }
 
-fn oldest(s: Senders) -> u64
-    requires { Sound s }
-{
-    let id = sr_of(s).oldest_unacknowledged();
-    id.0
-}
-
 fn usage(s: Senders, reliable: bool) -> u64
     requires { Sound s }
 {
@@ -562,12 +538,12 @@ fn usage(s: Senders, reliable: bool) -> u64
 }
 
 fn lend(numbers: &[u64]) -> Said {
-    Said::Lent {
-        small: page::word(numbers, 0),
-        lanes: page::word(numbers, 1),
-        out: page::word(numbers, 2),
-        table: page::word(numbers, 3),
-    }
+    Said::Lent(
+        page::word(numbers, 0),
+        page::word(numbers, 1),
+        page::word(numbers, 2),
+        page::word(numbers, 3),
+    )
 }
 
 // How many packets a call sent.
@@ -597,24 +573,13 @@ fn say_answer(page: &mut [u8], at: usize, said: Said) -> usize {
         Said::Unknown => page::text(page, at, b"unknown id"),
         Said::Available(n) => page::line(page, at, b"available #", &[n]),
         Said::Can(holds) => page::yes(page, at, holds),
-        Said::Oldest(id) => page::line(page, at, b"oldest #", &[id]),
-        Said::Lent {
-            small,
-            lanes,
-            out,
-            table,
-        } => page::line(
+        Said::Lent(small, lanes, out, table) => page::line(
             page,
             at,
             b"lent small # lanes # out # table #",
             &[small, lanes, out, table],
         ),
-        Said::Digest {
-            small,
-            lanes,
-            out,
-            table,
-        } => page::line(
+        Said::Digest(small, lanes, out, table) => page::line(
             page,
             at,
             b"small # lanes # out # table #",

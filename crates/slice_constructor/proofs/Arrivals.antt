@@ -1,10 +1,10 @@
 -- Any list of indices, in any order and with repeats: once each has come the message is whole, and before that it is not. Assumes nothing.
-use Prim.Native.Nat.{ℕ, ◌+◌, ◌*◌, ◌≤◌, ◌<◌}
-use mathlib.Core.Path.{◌≡◌, refl, sym, ap, ◌∙◌}
+use Prim.Native.Nat.{ℕ, ◌*◌, ◌≤◌, ◌<◌}
+use mathlib.Core.Path.{◌≡◌, refl, ap, ◌∙◌}
 use mathlib.Core.List.{List, [], ◌∷◌, Memᴰ}
 use mathlib.Core.Bool.{true, false}
 use native.Mathlib.Omega.{arith}
-use borrow.Author.Tests.{lt-leb, le-ltb, eq-eqb, ne_eqb}
+use borrow.Author.Tests.{lt-leb, le-ltb, ne_eqb}
 use lib.ListN.{length, get_or, take, set}
 use lib.Seq.{get_or-set_same, get_or-set_other}
 use Rattle.words.specs.Sizes.{SLICE_SIZE, PIECES, LIMIT}
@@ -13,14 +13,13 @@ use Rattle.words.proofs.Lists.{held-still}
 use Rattle.slice_constructor.specs.declared.SliceConstructor.{SliceConstructor}
 use Rattle.slice_constructor.specs.declared.Begun.{Begun}
 use Rattle.slice_constructor.specs.declared.Collected.{Collected}
-use Rattle.slice_constructor.specs.Collect.{Valid, blank_of, begin_number, begin_refusal, BeginGives, collect_refusal, taken, lane_taken, whole_len, missing, lacks, whole, collect_of, answer_of, CollectGives}
+use Rattle.slice_constructor.specs.Collect.{Valid, blank_of, begin_number, begin_refusal, BeginGives, collect_refusal, taken, lane_taken, whole_len, missing, whole, collect_of, answer_of, CollectGives}
 use Rattle.words.specs.Pieces.{pieces_of, piece_of}
 use Rattle.slice_constructor.specs.Whole.{Holds}
-use Rattle.slice_constructor.specs.Arrivals.{called, after_all, arrivals, among, new_to, different}
-use Rattle.words.proofs.Tables.{none-held, by-test, by_place}
+use Rattle.slice_constructor.specs.Arrivals.{called, after_all, arrivals}
+use Rattle.words.proofs.Tables.{none-held}
 use Rattle.slice_constructor.proofs.Valid.{Good, not-refused, in_table, blank-valid, taken-valid, taken-num, taken-received}
 use Rattle.slice_constructor.proofs.Whole.{says-whole, says-missing}
-use Rattle.slice_constructor.proofs.Missing.{missing-is, one_less, as_many}
 use Rattle.slice_constructor.proofs.Order.{good-piece, holds-new, holds-taken, whole-message}
 
 -- a call that keeps its promise leaves what `called` says
@@ -40,22 +39,6 @@ unfolding begin_refusal
 new-begins id n r below some most g =
     let k : begin_refusal id n ≡ 0 = simp (lt-leb _ _ below, ne_eqb n 0 (λ (z : n ≡ 0). omega arith), le-ltb _ _ most) in
     (g.number ∙ k, rw k at g.state)
-
-new-count : (id n : ℕ) → (blank_of id n).num_received_slices ≡ 0
-unfolding blank_of
-new-count id n = refl
-
-new-num : (id n : ℕ) → (blank_of id n).num_slices ≡ n
-unfolding blank_of
-new-num id n = refl
-
--- all of a new one's pieces are missing
-new-missing : (id n : ℕ) → id < LIMIT → n ≤ PIECES → missing (blank_of id n) ≡ n
-new-missing id n below most =
-    let v = blank-valid id n below most in
-    let e : (blank_of id n).num_received_slices ≡ 0 = new-count id n in
-    let f : (blank_of id n).num_slices ≡ n = new-num id n in
-    omega (arith, missing-is (blank_of id n) v)
 
 -- while the pieces of the message arrive
 record Going (msg : List ℕ) (c : SliceConstructor) (lane : List ℕ) : Type 0 where
@@ -124,44 +107,6 @@ module _ (msg : List ℕ) where
       lack is low.1 (called msg s i) (goes_on s.0 s.1 g i low.0) j (λ m. out (Memᴰ.tail m))
       ∙ only s.0 s.1 g i low.0 j (λ e. out (Memᴰ.head e))
 
-  -- ---- how many are missing after a run: each different index is one less
-
-  module _ (c : SliceConstructor) (lane : List ℕ) (g : Going msg c lane) (i : ℕ) (low : i < pieces_of (length msg)) where
-    not-bad : collect_refusal c i (length (piece_of msg i)) (length lane) ≡ 0
-    not-bad = not-refused _ _ _ _ (fits c lane g i low)
-
-    counted-new : get_or c.received i false ≡ false → missing (called msg (c, lane) i).0 + 1 ≡ missing c
-    counted-new e = rw (accepted c lane g i low) (one_less c g.valid i _ _ not-bad e)
-
-    counted-repeat : get_or c.received i false ≡ true → missing (called msg (c, lane) i).0 ≡ missing c
-    counted-repeat e = rw (accepted c lane g i low) (as_many c g.valid i _ _ not-bad e)
-
-    -- what is here is what was seen
-    seen-new : (seen : List ℕ) → ((j : ℕ) → get_or c.received j false ≡ among j seen) → (j : ℕ) → get_or (called msg (c, lane) i).0.received j false ≡ among j (i ∷ seen)
-    unfolding among
-    seen-new seen same j =
-        by_place i j
-        (λ e. rw (e, eq-eqb i i refl) (comes c lane g i low))
-        (λ ne. rw (ne_eqb j i ne) (only c lane g i low j ne ∙ same j))
-
-    seen-repeat : (seen : List ℕ) → ((j : ℕ) → get_or c.received j false ≡ among j seen) → get_or c.received i false ≡ true → (j : ℕ)
-        → get_or (called msg (c, lane) i).0.received j false ≡ among j seen
-    seen-repeat seen same here j =
-        by_place i j
-        (λ e. rw e (comes c lane g i low ∙ sym here ∙ same i))
-        (λ ne. only c lane g i low j ne ∙ same j)
-
-  run-counts : (is : List ℕ) → All (λ i. i < pieces_of (length msg)) is → (s : SliceConstructor × List ℕ) → Going msg s.0 s.1
-      → (seen : List ℕ) → ((j : ℕ) → get_or s.0.received j false ≡ among j seen) → missing (after_all msg s is).0 + new_to seen is ≡ missing s.0
-  unfolding All reached new_to
-  run-counts [] low s g seen same = omega arith
-  run-counts (i ∷ is) low s g seen same =
-      by-test (get_or s.0.received i false)
-      (λ e. let h = run-counts is low.1 (called msg s i) (goes_on s.0 s.1 g i low.0) seen (seen-repeat s.0 s.1 g i low.0 seen same e) in
-      rw (sym (same i) ∙ e) (h ∙ counted-repeat s.0 s.1 g i low.0 e))
-      (λ e. let h = run-counts is low.1 (called msg s i) (goes_on s.0 s.1 g i low.0) (i ∷ seen) (seen-new s.0 s.1 g i low.0 seen same) in
-      rw (sym (same i) ∙ e) (omega (arith, h, counted-new s.0 s.1 g i low.0 e)))
-
 -- a message that is at least a byte and at most `PIECES` pieces long, and a lane with room for its pieces
 module _ (msg lane : List ℕ) (id : ℕ) (is : List ℕ) (below : id < LIMIT) (some : 0 < length msg) (most : pieces_of (length msg) ≤ PIECES)
     (room : pieces_of (length msg) * SLICE_SIZE ≤ length lane) (low : All (λ i. i < pieces_of (length msg)) is) where
@@ -182,16 +127,9 @@ module _ (msg lane : List ℕ) (id : ℕ) (is : List ℕ) (below : id < LIMIT) (
       let w = whole-message c ended.valid msg _ ended.num ended.kept some (whole_len c) a in
       (a ∙ ap whole w.0, rw w.0 at w.1)
 
-  -- after pieces with these indices were taken, missing is num_slices less the number of different ones
-  pub missing-after : missing (arrivals msg id lane is).0 + different is ≡ pieces_of (length msg)
-  unfolding blank_of among
-  missing-after =
-      run-counts msg is low (blank_of id (pieces_of (length msg)), lane) begun [] (λ j. none-held PIECES j)
-      ∙ new-missing id (pieces_of (length msg)) below most
-
   -- where one has not, more are to come
   pub missing-until-all-came : (i : ℕ) → i < pieces_of (length msg) → (Memᴰ i is → ⊥)
-      → answer_of (arrivals msg id lane is).0 ≡ lacks (missing (arrivals msg id lane is).0)
+      → answer_of (arrivals msg id lane is).0 ≡ missing
   unfolding blank_of
   missing-until-all-came i l out =
       says-missing _ ended.valid i (rw ended.num l) (lack msg is low (blank_of id (pieces_of (length msg)), lane) begun i out ∙ none-held PIECES i)

@@ -4,4 +4,3 @@ pub mod Whole
 pub mod Order
 pub mod Unique
 pub mod Arrivals
-pub mod Missing

@@ -82,14 +82,14 @@ module _ (k : SliceConstructor) (v : c.Valid k) (i n m : ℕ) (room : k.num_slic
 
 -- ---- whether the piece was refused
 
-refused-tests : (good whole : Bool) (m k n e : ℕ) → c.refused n ≡ pick good (pick whole (c.whole m) (c.lacks k)) (c.refused e) → (good ≡ false) × (n ≡ e)
-refused-tests true true m k n e h = clash (cc)
-refused-tests true false m k n e h = clash (cc)
-refused-tests false whole m k n e h = (refl, cc)
+refused-tests : (good whole : Bool) (m n e : ℕ) → c.refused n ≡ pick good (pick whole (c.whole m) c.missing) (c.refused e) → (good ≡ false) × (n ≡ e)
+refused-tests true true m n e h = clash (cc)
+refused-tests true false m n e h = clash (cc)
+refused-tests false whole m n e h = (refl, cc)
 
 good-test : (a : Collect) → OneOf (0 ∷ 1 ∷ []) (tag_of the_type a) → (good : Bool) (x : c.Collection) (e : ℕ) → c.collect_of a ≡ pick good x (c.refused e) → good ≡ true
 good-test a k true x e h = refl
-good-test (collect.More n) k false x e h = clash (cc)
+good-test collect.More k false x e h = clash (cc)
 good-test (collect.Whole n) k false x e h = clash (cc)
 good-test (collect.Refused n) k false x e h = ⊎_elim (λ z. absurd (omega arith)) (λ z. absurd (omega arith)) k
 
@@ -104,7 +104,7 @@ module _ (k : SliceConstructor) (i : ℕ) (bs store : List ℕ) (a m : ℕ) (fit
   piece-refused e h =
       let d = c.taken k i (length bs) in
       let n = c.collect_refusal k i (length bs) m in
-      refused-tests (eqb n 0) (c.is_whole d) (c.whole_len d) (c.missing d) (number_of e) n (ap c.collect_of (sym h) ∙ rw long at g.answer)
+      refused-tests (eqb n 0) (c.is_whole d) (c.whole_len d) (number_of e) n (ap c.collect_of (sym h) ∙ rw long at g.answer)
 
   pub piece-good : OneOf (0 ∷ 1 ∷ []) (tag_of the_type r.answer) → eqb (c.collect_refusal k i (length bs) m) 0 ≡ true
   piece-good t = let n = c.collect_refusal k i (length bs) m in good-test r.answer t (eqb n 0) _ n (rw long at g.answer)

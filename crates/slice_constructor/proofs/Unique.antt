@@ -12,7 +12,7 @@ use Rattle.slice_constructor.specs.declared.Begun.{Begun}
 use Rattle.slice_constructor.specs.declared.Collect.{Collect}
 use Rattle.slice_constructor.specs.declared.Collect.TheVariants as collect
 use Rattle.slice_constructor.specs.declared.Collected.{Collected}
-use Rattle.slice_constructor.specs.Collect.{begin_number, BeginGives, Collection, lacks, whole, refused, collect_of, CollectGives}
+use Rattle.slice_constructor.specs.Collect.{begin_number, BeginGives, Collection, missing, whole, refused, collect_of, CollectGives}
 
 -- ---- a beginning
 
@@ -32,12 +32,12 @@ one-begun id n r q x y =
 -- ---- a piece
 
 abbrev collect_from : Collection → Collect
-collect_from (lacks n) = collect.More n
+collect_from missing = collect.More
 collect_from (whole n) = collect.Whole n
 collect_from (refused n) = collect.Refused (refusal_of n)
 
 collect-undone : (a : Collect) → collect_from (collect_of a) ≡ a
-collect-undone (collect.More n) = refl
+collect-undone collect.More = refl
 collect-undone (collect.Whole n) = refl
 collect-undone (collect.Refused e) = ap collect.Refused (refusal-undone e)
 

@@ -9,7 +9,7 @@ use lib.ListN.{length, get_or, take}
 use lib.Seq.{get_or-take, length-take-le}
 use Rattle.words.specs.Lists.{holds}
 use Rattle.slice_constructor.specs.declared.SliceConstructor.{SliceConstructor}
-use Rattle.slice_constructor.specs.Collect.{Valid, whole_len, missing, lacks, whole, answer_of}
+use Rattle.slice_constructor.specs.Collect.{Valid, whole_len, missing, whole, answer_of}
 use Rattle.words.proofs.Tables.{holds-split, each-held, all_held}
 
 module _ (c : SliceConstructor) (v : Valid c) where
@@ -40,7 +40,7 @@ module _ (c : SliceConstructor) (v : Valid c) where
   unfolding answer_of
   says-whole f = rw (eq-eqb _ _ (each-whole f))
 
-  pub says-missing : (i : ℕ) → i < c.num_slices → get_or c.received i false ≡ false → answer_of c ≡ lacks (missing c)
+  pub says-missing : (i : ℕ) → i < c.num_slices → get_or c.received i false ≡ false → answer_of c ≡ missing
   unfolding answer_of
   says-missing i low out =
       let n : eqb c.num_received_slices c.num_slices ≡ false =

@@ -1,5 +1,5 @@
 -- A run of calls: pieces of one message, one after the other. Assumes nothing.
-use Rattle.std.specs.Prelude.{ℕ, suc, Bool, true, false, List, [], ◌∷◌, length, eqb}
+use Rattle.std.specs.Prelude.{ℕ, List, length, eqb}
 use Rattle.words.specs.Choice.{pick}
 use Rattle.words.specs.Lists.{reached}
 use Rattle.slice_constructor.specs.declared.SliceConstructor.{SliceConstructor}
@@ -20,18 +20,3 @@ after_all msg = reached (called msg)
 -- the same from a new reassembly of the message on
 abbrev pub arrivals : List ℕ → ℕ → List ℕ → List ℕ → SliceConstructor × List ℕ
 arrivals msg id lane = after_all msg (blank_of id (pieces_of (length msg)), lane)
-
--- ---- how many different indices there are
-
--- whether an index is among these
-unfoldable pub among : ℕ → List ℕ → Bool
-among i [] = false
-among i (j ∷ js) = pick (eqb i j) true (among i js)
-
--- how many different ones, beside those that were seen before
-unfoldable pub new_to : List ℕ → List ℕ → ℕ
-new_to seen [] = 0
-new_to seen (i ∷ is) = pick (among i seen) (new_to seen is) (suc (new_to (i ∷ seen) is))
-
-abbrev pub different : List ℕ → ℕ
-different is = new_to [] is

@@ -2,7 +2,7 @@
 use Rattle.std.specs.Prelude.{ℕ, ◌+◌, ◌-◌, ◌*◌, ◌≤◌, ◌<◌, ◌≡◌, Bool, true, false, not, List, [], ◌∷◌, length, get_or, set, drop, replicate, ltb, leb, eqb}
 use Rattle.words.specs.Sizes.{SLICE_SIZE, PIECES, LIMIT}
 use Rattle.words.specs.Choice.{pick, refusal}
-use Rattle.words.specs.Lists.{splice, holds, sum_below}
+use Rattle.words.specs.Lists.{splice, holds}
 use Rattle.words.specs.Refusal.{number_of}
 use Rattle.slice_constructor.specs.declared.SliceConstructor.{SliceConstructor}
 use Rattle.slice_constructor.specs.declared.Begin.{Begin}
@@ -91,15 +91,6 @@ lane_taken c i bs lane = pick (get_or c.received i false) lane (splice (i * SLIC
 abbrev pub whole_len : SliceConstructor → ℕ
 whole_len c = (c.num_slices - 1) * SLICE_SIZE + c.last_len
 
--- document 02, [7]: how many pieces are missing, the indices below num_slices that were not taken
-unfoldable pub missing : SliceConstructor → ℕ
-missing c = sum_below c.num_slices (λ i. pick (get_or c.received i false) 0 1)
-
--- what a receiver tells of a piece: how many of its message are missing where it was taken, and else no count
-pub data Report : Type 0 where
-  lacking : ℕ → Report
-  silent : Report
-
 -- ---- what a lane keeps: whole and as long as it is, or open and charged
 
 abbrev pub is_whole : SliceConstructor → Bool
@@ -121,20 +112,20 @@ start_of c fresh id n = pick fresh (blank_of id n) c
 
 -- ---- the answer
 
--- so many pieces are missing; the message is whole, so that none is, and so long; or the number of the refusal
+-- more pieces are to come; the message is whole, and so long; or the number of the refusal
 pub data Collection : Type 0 where
-  lacks : ℕ → Collection
+  missing : Collection
   whole : ℕ → Collection
   refused : ℕ → Collection
 
 abbrev pub collect_of : Collect → Collection
-collect_of (collect.More n) = lacks n
+collect_of collect.More = missing
 collect_of (collect.Whole n) = whole n
 collect_of (collect.Refused e) = refused (number_of e)
 
 -- whole when as many pieces are here as the message has
 unfoldable pub answer_of : SliceConstructor → Collection
-answer_of c = pick (is_whole c) (whole (whole_len c)) (lacks (missing c))
+answer_of c = pick (is_whole c) (whole (whole_len c)) missing
 
 -- what a piece gives, all of it: a refusal changes no state and no byte
 pub record CollectGives (c : SliceConstructor) (i : ℕ) (bs lane lane' : List ℕ) (r : Collected) : Type 0 where

@@ -1,7 +1,7 @@
 // One reassembly: which pieces of a message are here, where each goes in the lane that is lent for
 // it, and when the message is whole. Pieces come in any order, and may repeat.
 ghost use Rattle.std.specs.Prelude.{◌≡◌, ◌<◌, length};
-ghost use Rattle.slice_constructor.specs.Collect.{Valid, blank_of, BeginGives, start_of, kept_of_of, sized, collect_refusal, taken, lane_taken, missing, collect_of, answer_of, CollectGives};
+ghost use Rattle.slice_constructor.specs.Collect.{Valid, blank_of, BeginGives, start_of, kept_of_of, sized, collect_refusal, taken, lane_taken, collect_of, answer_of, CollectGives};
 ghost use Rattle.slice_constructor.specs.Steps.{judged_number};
 
 use words::{LIMIT, MessageId, PIECES, Refusal, SLICE_SIZE, SliceIndex};
@@ -23,19 +23,17 @@ pub enum Begin {
     Refused(Refusal),
 }
 
-// A call that changes the state returns the answer beside it, in a struct named by a participle.
 #[derive(Drop)]
 pub struct Begun {
     pub answer: Begin,
     pub state: SliceConstructor,
 }
 
-// What came of a piece that is new or a repeat: so many pieces are still missing, or none is, and the
-// message is whole and so long.
+// What came of a piece: more are to come, or the message is whole and so long.
 #[derive(Drop)]
 pub enum Collect {
-    More { missing: usize },
-    Whole { len: usize },
+    More,
+    Whole(usize),
     Refused(Refusal),
 }
 
@@ -96,12 +94,11 @@ impl SliceConstructor {
         self.message_id
     }
 
-    // How many pieces are missing; 0 once the message is whole.
-    pub fn missing(self) -> usize
-        requires { Valid self }
-        ensures { result ≡ missing self }
+    // How many pieces the message has.
+    pub fn num_slices(self) -> usize
+        ensures { result ≡ self.num_slices }
     {
-        self.num_slices - self.num_received_slices
+        self.num_slices
     }
 
     // Takes a piece: its bytes go to its place in the lane, the first time that it comes.
@@ -129,7 +126,7 @@ impl SliceConstructor {
     // The reassembly that a piece goes to: this one, or for a fresh message one of its own.
     pub fn start(self, fresh: bool, message_id: MessageId, num_slices: usize) -> SliceConstructor
         requires { Valid (start_of self fresh message_id.0 num_slices) }
-        ensures { (result ≡ start_of self fresh message_id.0 num_slices) × Valid result }
+        ensures { result ≡ start_of self fresh message_id.0 num_slices }
     {
         if fresh {
             return SliceConstructor::empty(message_id, num_slices);
@@ -140,7 +137,7 @@ impl SliceConstructor {
     // What a lane keeps of it.
     pub fn keep(self) -> Kept
         requires { Valid self × (0 < self.num_slices) }
-        ensures { (result ≡ kept_of_of self) × Valid result.constructor }
+        ensures { result ≡ kept_of_of self }
     {
         if self.num_received_slices == self.num_slices {
             let constructor = SliceConstructor::blank();
@@ -228,17 +225,14 @@ impl SliceConstructor {
         self
     }
 
-    // How many pieces are missing; where none is, how long the message is.
+    // Whether the message is whole, and how long it then is.
     fn answer(self) -> Collect
         requires { Valid self × (0 < self.num_slices) }
         ensures { collect_of result ≡ answer_of self }
     {
-        let missing = self.missing();
-        if missing == 0 {
-            return Collect::Whole {
-                len: (self.num_slices - 1) * SLICE_SIZE + self.last_len,
-            };
+        if self.num_received_slices == self.num_slices {
+            return Collect::Whole((self.num_slices - 1) * SLICE_SIZE + self.last_len);
         }
-        Collect::More { missing }
+        Collect::More
     }
 }

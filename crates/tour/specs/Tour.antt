@@ -1,9 +1,9 @@
 -- What the steps of the tour promise, by the definitions that the library's own promises cite. Assumes nothing.
-use Rattle.std.specs.Prelude.{ℕ, ◌≡◌, Bool, true, false}
-use Rattle.words.specs.Choice.{pick}
+use Rattle.std.specs.Prelude.{ℕ, ◌≡◌}
 use Rattle.send_reliable.specs.Sender as s
 use Rattle.send_reliable.specs.Queue.{spot_of, state_at}
 use Rattle.send_reliable.specs.Ack.{After, ack_small, ack_piece}
+use Rattle.send_reliable.specs.declared.SendChannelReliable.{SendChannelReliable}
 use Rattle.receive_reliable.specs.Receive as r
 use Rattle.receive_reliable.specs.declared.ReceiveChannelReliable.{ReceiveChannelReliable}
 use Rattle.tour.specs.declared.Ends.{Ends}
@@ -19,16 +19,16 @@ pub record Queues (e : Ends) (n small lanes : ℕ) (e' : Ends) : Type 0 where
   pub sender : e'.sender ≡ state_at e.sender n (spot_of e.sender n small lanes)
   pub receiver : e'.receiver ≡ e.receiver
 
--- what arrived is acknowledged if the receiver took it, now or before: so what the sender hears of was taken, as the theorems of delivery suppose
-abbrev pub acknowledged : r.Outcome → Bool
-acknowledged r.taken = true
-acknowledged r.ignored = true
-acknowledged (r.refused e) = false
+-- the sender hears of what arrived only if the receiver took it: what the theorems of delivery suppose of a program
+abbrev pub heard : r.Outcome → After → SendChannelReliable → SendChannelReliable
+heard r.taken acked sender = acked.state
+heard r.ignored acked sender = sender
+heard (r.refused e) acked sender = sender
 
--- something arrives with this outcome, which leaves this receiver; `acked` is what the sender makes of its acknowledgement, if it hears it
+-- something arrives with this outcome, which leaves this receiver; `acked` is what the sender makes of its acknowledgement
 pub record Arrives (e : Ends) (o : r.Outcome) (after : ReceiveChannelReliable) (acked : After) (e' : Ends) : Type 0 where
   pub ready : Ready e'
-  pub sender : e'.sender ≡ pick (pick e.heard (acknowledged o) false) acked.state e.sender
+  pub sender : e'.sender ≡ heard o acked e.sender
   pub receiver : e'.receiver ≡ after
 
 -- a small message of n bytes, and the piece i of num, with stores of these lengths lent

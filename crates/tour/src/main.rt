@@ -1,26 +1,22 @@
-// A tour of the library: a long message and a short one cross a line that loses a packet, and then what
-// the other side answers.
+// A tour of the library: a long message and a short one cross a line that loses a packet.
 //
 // Both ends stand in this one program, so that it reads from top to bottom; between two machines the
 // packets would go through a socket. States go into a call by value and come back beside its answer, and
 // all memory is the caller's. The library asks one thing of a caller: that a state is one that it made
 // (`Valid`). Every call promises that of the state it hands out, so nearly all of this is proved unasked.
-ghost use Rattle.std.specs.Prelude.{◌≡◌, false, length};
-ghost use Rattle.words.specs.Choice.{pick};
-ghost use Rattle.send_reliable.specs.Sender as s;
-ghost use Rattle.send_reliable.specs.Ack.{ack_small, ack_piece};
+ghost use Rattle.std.specs.Prelude.{◌≡◌, length};
 ghost use Rattle.receive_reliable.specs.Receive as r;
-ghost use Rattle.tour.specs.Tour.{Ready, Queues, acknowledged, MessageArrives, PieceArrives};
+ghost use Rattle.tour.specs.Tour.{Ready, Queues, MessageArrives, PieceArrives};
 
-use channel::{Settings, Setup};
+use channel::Settings;
 use libc::STDOUT_FILENO;
 use pack::{Budget, Went, Written};
 use packet::{Decoded, Packet};
 use packet_ack::{RANGES, Range};
 use packet_slice::Slice;
-use receive_reliable::{Arrival, Look, ReceiveChannelReliable, SliceArrival};
-use send_reliable::{Enqueue, SendChannelReliable};
-use words::{MessageId, Refusal, SLICE_SIZE, Sequence, SliceIndex};
+use receive_reliable::{Arrival, Look, ReceiveChannelReliable};
+use send_reliable::{Queue, SendChannelReliable};
+use words::{MessageId, SLICE_SIZE, Sequence};
 
 // Two small messages and a long one of two pieces may wait at each end.
 const SLOTS: usize = 2;
@@ -56,12 +52,11 @@ const MESSAGE: usize = 3;
 
 const MESSAGE_TABLE: usize = MESSAGE * MESSAGES;
 
-// Both ends, and whether the sender hears what the receiver acknowledges.
+// Both ends.
 #[derive(Drop)]
 struct Ends {
     sender: SendChannelReliable,
     receiver: ReceiveChannelReliable,
-    heard: bool,
 }
 
 // Both ends after a round, and what it wrote. That tells the number of the next packet, which the caller
@@ -83,8 +78,7 @@ fn main() {
     say_usage(e);
 }
 
-// The first packet is lost, and so is every acknowledgement. A piece of the first message is missing, so
-// nothing can come out yet.
+// The first packet is lost. It had a piece of the first message, so nothing can come out yet.
 fn lossy(
     e: Ends,
     near_small: &[u8],
@@ -102,8 +96,7 @@ fn lossy(
     Rounded { ends, written }
 }
 
-// After the resend time all goes again, since the sender heard of nothing. What the receiver has already it
-// ignores; it is acknowledged all the same, or it would go for ever. Both messages come out.
+// After the resend time the missing piece goes again, and nothing else: both messages come out.
 fn again(
     r: Rounded,
     near_small: &[u8],
@@ -116,7 +109,7 @@ fn again(
 {
     let next = r.written.next_sequence;
     let r = cross(
-        hearing(r.ends),
+        r.ends,
         next,
         RESEND_TIME,
         0,
@@ -127,15 +120,6 @@ fn again(
     );
     let e = take(r.ends, far_small, far_lanes);
     take(e, far_small, far_lanes)
-}
-
-// From now on the sender hears what is acknowledged.
-fn hearing(mut e: Ends) -> Ends
-    requires { Ready e }
-    ensures { Ready result }
-{
-    e.heard = true;
-    e
 }
 
 // Queues a message that goes in pieces, and a small one.
@@ -149,7 +133,7 @@ fn queue_both(e: Ends, small: &mut [u8], lanes: &mut [u8]) -> Ends
     queue(e, b"hello", small, lanes)
 }
 
-// Sets both ends up, for channel 0.
+// Sets both ends up, for channel 0. Settings outside their ranges would be refused (9).
 fn start() -> Ends
     ensures { Ready result }
 {
@@ -161,17 +145,9 @@ fn start() -> Ends
     };
     let made = SendChannelReliable::new(0, settings, RESEND_TIME);
     let sender = made.state;
-    let answer = made.answer;
-    say_setup(b"sender", answer);
     let made = ReceiveChannelReliable::new(settings);
     let receiver = made.state;
-    let answer = made.answer;
-    say_setup(b"receiver", answer);
-    Ends {
-        sender,
-        receiver,
-        heard: false,
-    }
+    Ends { sender, receiver }
 }
 
 // Queues a message. Its bytes are copied to a store.
@@ -185,12 +161,7 @@ fn queue(e: Ends, message: &[u8], small: &mut [u8], lanes: &mut [u8]) -> Ends
     say_queued(answer, message);
     let sender = queued.state;
     let receiver = e.receiver;
-    let heard = e.heard;
-    Ends {
-        sender,
-        receiver,
-        heard,
-    }
+    Ends { sender, receiver }
 }
 
 // A round of the sender, whose packets reach the receiver from the k-th on.
@@ -256,12 +227,7 @@ fn round(
     );
     let sender = round.state;
     let receiver = e.receiver;
-    let heard = e.heard;
-    let ends = Ends {
-        sender,
-        receiver,
-        heard,
-    };
+    let ends = Ends { sender, receiver };
     let answer = round.answer;
     let written = say_round(answer, sequence);
     Rounded { ends, written }
@@ -335,70 +301,8 @@ fn deliver_small(
     ends
 }
 
-// Whether the sender hears of what arrived: what was taken is acknowledged, and what was ignored, since that
-// was taken before.
-fn reaches(heard: bool, answer: Arrival) -> bool
-    ensures { result ≡ pick heard (acknowledged (r.arrival_of answer)) false }
-{
-    if heard {
-        return match answer {
-            Arrival::Taken => true,
-            Arrival::Ignored => true,
-            Arrival::Refused(_) => false,
-        };
-    }
-    false
-}
-
-// The same of a piece.
-fn reaches_piece(heard: bool, answer: SliceArrival) -> bool
-    ensures { result ≡ pick heard (acknowledged (r.slice_outcome answer)) false }
-{
-    if heard {
-        return match answer {
-            SliceArrival::Taken { .. } => true,
-            SliceArrival::Ignored => true,
-            SliceArrival::Refused(_) => false,
-        };
-    }
-    false
-}
-
-// The sender after the word of a small message, if it came.
-fn after_message(
-    sender: SendChannelReliable,
-    told: bool,
-    message_id: MessageId,
-) -> SendChannelReliable
-    requires { s.Valid sender }
-    ensures { (result ≡ pick told (ack_small sender message_id.0).state sender) × s.Valid result }
-{
-    if told {
-        let acked = sender.process_message_ack(message_id);
-        return acked.state;
-    }
-    sender
-}
-
-// The same of a piece.
-fn after_piece(
-    sender: SendChannelReliable,
-    told: bool,
-    message_id: MessageId,
-    slice_index: SliceIndex,
-) -> SendChannelReliable
-    requires { s.Valid sender }
-    ensures { (result ≡ pick told (ack_piece sender message_id.0 slice_index.0).state sender) × s.Valid result }
-{
-    if told {
-        let acked = sender.process_slice_message_ack(message_id, slice_index);
-        return acked.state;
-    }
-    sender
-}
-
-// Delivers a small message, and acknowledges it. Between two machines the numbers of packets come back in
-// an Ack packet, and the sender's side keeps which messages each packet had.
+// Delivers a small message; the sender hears of it if it was taken. Between two machines the numbers of
+// packets come back in an Ack packet, and the sender's side keeps which messages each packet had.
 fn deliver_message(e: Ends, id: MessageId, message: &[u8], small: &mut [u8], lanes: &[u8]) -> Ends
     requires { Ready e }
     ensures { MessageArrives e id.0 (length message.now) (length small.old) (length lanes.now) result }
@@ -406,14 +310,16 @@ fn deliver_message(e: Ends, id: MessageId, message: &[u8], small: &mut [u8], lan
     let receiver = e.receiver;
     let arrived = receiver.process_message(id, message, small, lanes);
     let answer = arrived.answer;
-    say_arrival(answer);
-    let told = reaches(e.heard, answer);
-    let sender = after_message(e.sender, told, id);
     let receiver = arrived.state;
-    Ends {
-        sender,
-        receiver,
-        heard: e.heard,
+    let sender = e.sender;
+    match answer {
+        Arrival::Taken => {
+            let acked = sender.process_message_ack(id);
+            let sender = acked.state;
+            Ends { sender, receiver }
+        }
+        Arrival::Ignored => Ends { sender, receiver },
+        Arrival::Refused(_) => Ends { sender, receiver },
     }
 }
 
@@ -428,14 +334,16 @@ fn deliver_piece(e: Ends, p: Slice, piece: &[u8], small: &[u8], lanes: &mut [u8]
     let index = p.slice_index;
     let arrived = receiver.process_slice(id, index, p.num_slices, piece, small, lanes);
     let answer = arrived.answer;
-    say_piece(answer);
-    let told = reaches_piece(e.heard, answer);
-    let sender = after_piece(e.sender, told, id, index);
     let receiver = arrived.state;
-    Ends {
-        sender,
-        receiver,
-        heard: e.heard,
+    let sender = e.sender;
+    match answer {
+        Arrival::Taken => {
+            let acked = sender.process_slice_message_ack(id, index);
+            let sender = acked.state;
+            Ends { sender, receiver }
+        }
+        Arrival::Ignored => Ends { sender, receiver },
+        Arrival::Refused(_) => Ends { sender, receiver },
     }
 }
 
@@ -451,12 +359,7 @@ fn take<'a>(e: Ends, small: &'a [u8], lanes: &'a [u8]) -> Ends
     let received = receiver.receive_message();
     let receiver = received.state;
     let sender = e.sender;
-    let heard = e.heard;
-    Ends {
-        sender,
-        receiver,
-        heard,
-    }
+    Ends { sender, receiver }
 }
 
 // The i-th packet of a round.
@@ -513,24 +416,10 @@ fn say_message(s: &[u8], id: MessageId, message: &[u8]) {
     text(b"\n");
 }
 
-// Settings outside their ranges would be refused.
-fn say_setup(s: &[u8], answer: Setup) {
-    text(s);
+fn say_queued(answer: Queue, message: &[u8]) {
     match answer {
-        Setup::Ready => text(b" is ready\n"),
-        Setup::Refused(why) => say_refused(why),
-    }
-}
-
-fn say_refused(why: Refusal) {
-    say(b"    refused: ", why.number() as u64);
-    text(b"\n");
-}
-
-fn say_queued(answer: Enqueue, message: &[u8]) {
-    match answer {
-        Enqueue::Taken(id) => say_message(b"queued message ", id, message),
-        Enqueue::Refused(why) => say_refused(why),
+        Queue::Taken(id) => say_message(b"queued message ", id, message),
+        Queue::Refused(why) => say(b"refused: ", why.number() as u64),
     }
 }
 
@@ -543,28 +432,9 @@ fn say_packet(p: Packet) {
     text(b"\n");
 }
 
-fn say_arrival(answer: Arrival) {
-    match answer {
-        Arrival::Taken => text(b"    taken\n"),
-        Arrival::Ignored => text(b"    ignored: it was taken before\n"),
-        Arrival::Refused(why) => say_refused(why),
-    }
-}
-
-fn say_piece(answer: SliceArrival) {
-    match answer {
-        SliceArrival::Taken { missing } => {
-            say(b"    taken, pieces missing: ", missing as u64);
-            text(b"\n");
-        }
-        SliceArrival::Ignored => text(b"    ignored: it was taken before\n"),
-        SliceArrival::Refused(why) => say_refused(why),
-    }
-}
-
 fn say_out(look: Look, message: &[u8]) {
     match look {
-        Look::Message { id, .. } => say_message(b"out comes message ", id, message),
+        Look::Message(id, _, _, _) => say_message(b"out comes message ", id, message),
         _ => text(b"nothing comes out yet\n"),
     }
 }

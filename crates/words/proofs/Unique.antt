@@ -8,7 +8,7 @@ use lib.Dec.{eqb}
 use Rattle.words.specs.Choice.{pick}
 use Rattle.words.specs.Refusal.{number_of}
 use Rattle.words.specs.declared.Refusal.{Refusal}
-use Rattle.words.specs.declared.Refusal.TheVariants.{BufferTooShort, InvalidNumSlices, SliceSizeAboveLimit, EmptySlice, InvalidAckRange, InvalidPacketType, ReliableChannelMaxMemoryReached, InvalidSliceMessage, BadSettings, BadStore, TableFull, TooLong, BadNumber, ClockBack, NoRoom, WrongKind, BadIndex, TooFarAhead, InvalidSliceIndex, BadSample, NoSuchChannel, BadPlan, BadRecord}
+use Rattle.words.specs.declared.Refusal.TheVariants.{BufferTooShort, InvalidNumSlices, SliceSizeAboveLimit, EmptySlice, InvalidAckRange, InvalidPacketType, ReliableChannelMaxMemoryReached, InvalidSliceMessage, BadSettings, BadStore, TableFull, TooLong, BadNumber, ClockBack, NoRoom, WrongKind, BadIndex}
 
 pub told-apart : {A B : Type 0} (f : A → B) (g : B → A) → ((a : A) → g (f a) ≡ a) → (a b : A) → f a ≡ f b → a ≡ b
 told-apart f g h a b e = sym (h a) ∙ ap g e ∙ h b
@@ -31,13 +31,7 @@ refusal_of n =
     (pick (eqb n 13) BadNumber
     (pick (eqb n 14) ClockBack
     (pick (eqb n 15) NoRoom
-    (pick (eqb n 16) WrongKind
-    (pick (eqb n 17) BadIndex
-    (pick (eqb n 18) TooFarAhead
-    (pick (eqb n 19) InvalidSliceIndex
-    (pick (eqb n 20) BadSample
-    (pick (eqb n 21) NoSuchChannel
-    (pick (eqb n 22) BadPlan BadRecord)))))))))))))))))))))
+    (pick (eqb n 16) WrongKind BadIndex)))))))))))))))
 
 pub refusal-undone : (r : Refusal) → refusal_of (number_of r) ≡ r
 refusal-undone BufferTooShort = refl
@@ -57,12 +51,6 @@ refusal-undone ClockBack = refl
 refusal-undone NoRoom = refl
 refusal-undone WrongKind = refl
 refusal-undone BadIndex = refl
-refusal-undone TooFarAhead = refl
-refusal-undone InvalidSliceIndex = refl
-refusal-undone BadSample = refl
-refusal-undone NoSuchChannel = refl
-refusal-undone BadPlan = refl
-refusal-undone BadRecord = refl
 
 -- 0 is no refusal's number
 pub numbered-above : (e : Refusal) → eqb (number_of e) 0 ≡ false

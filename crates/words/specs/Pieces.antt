@@ -1,11 +1,7 @@
 -- A message in pieces. Document 01: 1,200 bytes is small; 1,201 is pieces of 1,200 and 1; 2,401 is three pieces. Assumes nothing.
-use Rattle.std.specs.Prelude.{ℕ, ◌+◌, ◌-◌, ◌*◌, ◌/◌, Bool, List, take, drop, leb, eqb}
+use Rattle.std.specs.Prelude.{ℕ, ◌+◌, ◌-◌, ◌*◌, ◌/◌, List, take, drop, eqb}
 use Rattle.words.specs.Sizes.{SLICE_SIZE}
 use Rattle.words.specs.Choice.{pick}
-
--- whether a message of n bytes is small: it goes whole, and else in pieces
-abbrev pub is_small : ℕ → Bool
-is_small n = leb n SLICE_SIZE
 
 -- how many pieces a message of n bytes has
 abbrev pub pieces_of : ℕ → ℕ

@@ -1,7 +1,7 @@
--- Document 01, "Numbers a caller may see"; document 02 names 18 to 23. Assumes nothing.
+-- Document 01, "Numbers a caller may see". Assumes nothing.
 use Rattle.std.specs.Prelude.{ℕ}
 use Rattle.words.specs.declared.Refusal.{Refusal}
-use Rattle.words.specs.declared.Refusal.TheVariants.{BufferTooShort, InvalidNumSlices, SliceSizeAboveLimit, EmptySlice, InvalidAckRange, InvalidPacketType, ReliableChannelMaxMemoryReached, InvalidSliceMessage, BadSettings, BadStore, TableFull, TooLong, BadNumber, ClockBack, NoRoom, WrongKind, BadIndex, TooFarAhead, InvalidSliceIndex, BadSample, NoSuchChannel, BadPlan, BadRecord}
+use Rattle.words.specs.declared.Refusal.TheVariants.{BufferTooShort, InvalidNumSlices, SliceSizeAboveLimit, EmptySlice, InvalidAckRange, InvalidPacketType, ReliableChannelMaxMemoryReached, InvalidSliceMessage, BadSettings, BadStore, TableFull, TooLong, BadNumber, ClockBack, NoRoom, WrongKind, BadIndex}
 
 abbrev pub number_of : Refusal → ℕ
 number_of BufferTooShort = 1
@@ -21,9 +21,3 @@ number_of ClockBack = 14
 number_of NoRoom = 15
 number_of WrongKind = 16
 number_of BadIndex = 17
-number_of TooFarAhead = 18
-number_of InvalidSliceIndex = 19
-number_of BadSample = 20
-number_of NoSuchChannel = 21
-number_of BadPlan = 22
-number_of BadRecord = 23

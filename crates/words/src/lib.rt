@@ -60,16 +60,10 @@ pub enum Refusal {
     NoRoom,
     WrongKind,
     BadIndex,
-    TooFarAhead,
-    InvalidSliceIndex,
-    BadSample,
-    NoSuchChannel,
-    BadPlan,
-    BadRecord,
 }
 
 impl Refusal {
-    // The number of a refusal, 1 to 23.
+    // The number of a refusal, 1 to 17.
     pub fn number(self) -> u8
         ensures { result ≡ number_of self }
     {
@@ -91,12 +85,6 @@ impl Refusal {
             Refusal::NoRoom => 15,
             Refusal::WrongKind => 16,
             Refusal::BadIndex => 17,
-            Refusal::TooFarAhead => 18,
-            Refusal::InvalidSliceIndex => 19,
-            Refusal::BadSample => 20,
-            Refusal::NoSuchChannel => 21,
-            Refusal::BadPlan => 22,
-            Refusal::BadRecord => 23,
         }
     }
 }

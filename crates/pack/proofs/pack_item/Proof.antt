@@ -1,10 +1,9 @@
 -- `pack::pack_item` meets its contract: a turn of packing for each of its answers. Assumes nothing.
-use mathlib.Core.Logic.{inl}
 use native.Mathlib.Omega.{arith}
 use borrow.Author.Rules.{rules}
 use borrow.Author.Tests.{eq-eqb, ne_eqb}
 use Rattle.pack.specs.Pack.{packed_len}
-use Rattle.pack.proofs.Turns.{piece-turn, over-turn, join-turn}
+use Rattle.pack.proofs.Turns.{piece-turn, close-turn, join-turn}
 use Rattle.pack.proofs.pack_item.Statement.{statement}
 use Rattle.pack.proofs.pack_item.Tie as tie
 
@@ -53,8 +52,8 @@ serialized-size-requires c κs = search rules
 add-if2 : tie.Need-overflow-add-if2
 add-if2 c = omega arith
 
-close-group-requires : tie.Need-close-group-requires
-close-group-requires c κs = search rules
+put-group-requires : tie.Need-put-group-requires
+put-group-requires c κs = search rules
 
 same-length-2 : tie.Need-same-length-2
 same-length-2 c = search rules
@@ -63,7 +62,8 @@ returns-2 : tie.Need-returns-2
 unfolding packed_len
 returns-2 c =
     let s = c.before.before.before.before.before.before.before.before.before.before.before.before in
-    over-turn _ _ _ _ _ _ s.requires.1.1.1.1.1 s.requires.1.0 s.requires.1.1.0 s.requires.0 s.requires.1.1.1.0 _ _ (eq-eqb _ 0 c.before.before.before.before.before.before.before.before.if1.false) c.before.before.before.before.before.serialized-size.ensures.0 c.before.before.before.before.if2.true c.before.before.close-group.ensures
+    let e = c.before.before.put-group.ensures in
+    rw (e.0, e.1) (close-turn _ _ _ _ _ _ s.requires.1.1.1.1.1 s.requires.1.0 s.requires.1.1.0 s.requires.0 s.requires.1.1.1.0 (eq-eqb _ 0 c.before.before.before.before.before.before.before.before.if1.false) c.before.before.before.before.before.serialized-size.ensures.0 c.before.before.before.before.if2.true)
 
 add-p : tie.Need-overflow-add-p
 add-p c = omega arith
@@ -75,7 +75,7 @@ returns-3 : tie.Need-returns-3
 unfolding packed_len
 returns-3 c =
     let s = c.before.before.before.before.before.before.before.before.before in
-    join-turn _ _ _ _ _ _ s.requires.1.1.1.1.1 s.requires.1.0 (eq-eqb _ 0 c.before.before.before.before.before.if1.false) c.before.before.serialized-size.ensures.0 (inl c.before.if2.false)
+    join-turn _ _ _ _ _ _ s.requires.1.1.1.1.1 s.requires.1.0 (eq-eqb _ 0 c.before.before.before.before.before.if1.false) c.before.before.serialized-size.ensures.0 c.before.if2.false
 
 pub pack-item-spec : {M : Type 1} → statement M
 pack-item-spec =
@@ -95,7 +95,7 @@ pack-item-spec =
     shared-slice-read-serialized-size-2
     serialized-size-requires
     add-if2
-    close-group-requires
+    put-group-requires
     same-length-2
     returns-2
     add-p

@@ -5,14 +5,14 @@ use Rattle.pack.specs.Pack.{packed_len}
 use Rattle.pack.proofs.serialized_size.Statement.{statement}
 use Rattle.pack.proofs.serialized_size.Tie as tie
 
-length-len-requires : tie.Need-length-len-requires
-length-len-requires c κs = search rules
+form-len-requires : tie.Need-form-len-requires
+form-len-requires c κs = search rules
 
 add-size : tie.Need-overflow-add-size
 add-size c = omega arith
 
-form-len-requires : tie.Need-form-len-requires
-form-len-requires c κs = search rules
+form-len-requires-2 : tie.Need-form-len-requires-2
+form-len-requires-2 c κs = search rules
 
 add-result : tie.Need-overflow-add-result
 add-result c = omega arith
@@ -28,4 +28,4 @@ returns-2 c = (rw c.if1.false (omega arith), omega arith)
 pub serialized-size-spec : {M : Type 1} → statement M
 serialized-size-spec =
     tie.close
-    (tie.spec length-len-requires add-size form-len-requires add-result returns returns-2)
+    (tie.spec form-len-requires add-size form-len-requires-2 add-result returns returns-2)

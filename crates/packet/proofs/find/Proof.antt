@@ -1,32 +1,20 @@
 -- `packet::find` meets its contract: the type byte says which layout the whole has. Assumes nothing.
-use Prim.Native.Nat.{◌≤◌}
-use mathlib.Core.Path.{◌≡◌, refl, sym, ◌∙◌}
+use native.Mathlib.Omega.{arith}
+use mathlib.Core.Path.{refl}
 use mathlib.Core.Bool.{true, false}
-use lib.ListN.{length, get_or}
-use Rattle.packet.proofs.Read.{no-type, typed, as-small, as-slice, as-ack, no_kind}
+use Rattle.packet.proofs.Read.{no-type, as-small, as-slice, as-ack, no_kind}
 use borrow.Author.Rules.{rules}
 use Rattle.packet.proofs.find.Statement.{statement}
 use Rattle.packet.proofs.find.Tie as tie
-
-get-u8-requires : tie.Need-get-u8-requires
-get-u8-requires c κs = search rules
-
-enum-known-kind : tie.Need-enum-known-kind
-enum-known-kind c = search rules
-
-enum_told : tie.Need-enum-told
-enum_told c = search rules
 
 no-ranges-requires : tie.Need-no-ranges-requires
 no-ranges-requires c κs = search rules
 
 returns : tie.Need-returns
-returns c = no-type _ _ _ c.before.before.before.get-u8.ensures c.before.enum_told.given.1 refl c.no-ranges.ensures
+returns c = no-type _ _ _ c.before.if1.true refl c.no-ranges.ensures
 
--- the type byte, once it is read
-there : (c : tie.After-known-told) →
-    let bs = c.before.before.before.before.before.before.args.bytes.now in (1 ≤ length bs) × (get_or bs 0 0 ≡ c.before.kind.given.0.0)
-there c = typed _ c.before.before.before.get-u8.ensures c.before.kind.given.1
+shared-slice-read-kind : tie.Need-shared-slice-read-kind
+shared-slice-read-kind c = search rules
 
 read-small-requires : tie.Need-read-small-requires
 read-small-requires c κs = search rules
@@ -79,8 +67,7 @@ same_length c = search rules
 returns-2 : tie.Need-returns-2
 returns-2 c =
     let b = c.before.before.before.before in
-    let t = there b.before.before.before in
-    as-small _ _ _ t.0 true (t.1 ∙ b.before.before.match2.keys1) b.read_small.result b.read_small.ensures c.before.decoded-small.ensures c.no-ranges2.ensures
+    as-small _ _ _ (omega arith) true b.before.before.match.keys1 b.read_small.result b.read_small.ensures c.before.decoded-small.ensures c.no-ranges2.ensures
 
 same-length-2 : tie.Need-same-length-2
 same-length-2 c = search rules
@@ -88,41 +75,33 @@ same-length-2 c = search rules
 returns-3 : tie.Need-returns-3
 returns-3 c =
     let b = c.before.before.before.before in
-    let t = there b.before.before.before in
-    as-small _ _ _ t.0 false (t.1 ∙ b.before.before.match2.keys2) b.read-small2.result b.read-small2.ensures c.before.decoded-small2.ensures c.no-ranges3.ensures
+    as-small _ _ _ (omega arith) false b.before.before.match.keys2 b.read-small2.result b.read-small2.ensures c.before.decoded-small2.ensures c.no-ranges3.ensures
 
 returns-4 : tie.Need-returns-4
 returns-4 c =
     let b = c.before.before in
-    let t = there b.before.before in
-    as-slice _ _ _ t.0 true (t.1 ∙ b.before.match2.keys3) b.read-slice.result b.read-slice.ensures c.before.decoded-slice.ensures c.no-ranges4.ensures
+    as-slice _ _ _ (omega arith) true b.before.match.keys3 b.read-slice.result b.read-slice.ensures c.before.decoded-slice.ensures c.no-ranges4.ensures
 
 returns-5 : tie.Need-returns-5
 returns-5 c =
     let b = c.before.before in
-    let t = there b.before.before in
-    as-slice _ _ _ t.0 false (t.1 ∙ b.before.match2.keys4) b.read-slice2.result b.read-slice2.ensures c.before.decoded-slice2.ensures c.no-ranges5.ensures
+    as-slice _ _ _ (omega arith) false b.before.match.keys4 b.read-slice2.result b.read-slice2.ensures c.before.decoded-slice2.ensures c.no-ranges5.ensures
 
 returns-6 : tie.Need-returns-6
-returns-6 c =
-    let t = there c.before.before.before in
-    as-ack _ _ _ t.0 (t.1 ∙ c.before.before.match2.keys5) c.before.find-ack.result c.before.find-ack.ensures c.decoded-ack.ensures
+returns-6 c = as-ack _ _ _ (omega arith) c.before.before.match.keys5 c.before.find-ack.result c.before.find-ack.ensures c.decoded-ack.ensures
 
 returns-7 : tie.Need-returns-7
 returns-7 c =
-    let n = c.before.match2.rest in
-    let t = there c.before.before in
-    no_kind _ _ _ t.0 (λ e. n.0.0.0.0.1 (sym t.1 ∙ e)) (λ e. n.0.0.0.1 (sym t.1 ∙ e)) (λ e. n.0.0.1 (sym t.1 ∙ e)) (λ e. n.0.1 (sym t.1 ∙ e)) (λ e. n.1 (sym t.1 ∙ e)) refl c.no-ranges6.ensures
+    let n = c.before.match.rest in
+    no_kind _ _ _ (omega arith) n.0.0.0.0.1 n.0.0.0.1 n.0.0.1 n.0.1 n.1 refl c.no-ranges6.ensures
 
 pub find_spec : {M : Type 1} → statement M
 find_spec =
     tie.close
     (tie.spec
-    get-u8-requires
-    enum-known-kind
-    enum_told
     no-ranges-requires
     returns
+    shared-slice-read-kind
     read-small-requires
     decoded-small-requires
     no-ranges-requires-2

@@ -6,8 +6,7 @@ use mathlib.Core.Path.{◌≡◌, refl, sym, ◌∙◌}
 use mathlib.Core.Bool.{false}
 use Rattle.packet_slice.specs.Slice.{slice_of}
 use Rattle.packet_slice.specs.Steps.{too_large_of}
-use Rattle.packet_slice.proofs.Allowed.{never-0, refuses, allows}
-use Rattle.packet_slice.proofs.Judge.{not-stored, number-bad, piece-bad, len-said, no_room, may_write, put-to}
+use Rattle.packet_slice.proofs.Judge.{not-stored, number-bad, len-said, no_room, may_write, put-to}
 use Rattle.packet_slice.proofs.put_slice.Statement.{statement}
 use Rattle.packet_slice.proofs.put_slice.Tie as tie
 
@@ -30,50 +29,28 @@ returns-3 c = (number-bad _ _ _ _ _ (omega arith) (sym c.before.too_large.ensure
 said : (c : tie.Else3) → too_large_of (slice_of c.before.before.before.before.before.before.before.args.packet) ≡ false
 said c = sym c.before.too_large.ensures ∙ c.if3.false
 
-judge-piece-requires : tie.Need-judge-piece-requires
-judge-piece-requires c κs = search rules
-
-enum-known-judged : tie.Need-enum-known-judged
-enum-known-judged c = search rules
-
 returns-4 : tie.Need-returns-4
-returns-4 c =
-    let j = c.before.before.before in
-    (piece-bad _ _ _ _ _ (omega arith) (said j.before) (refuses j.judge-piece.result j.judge-piece.ensures c.before.judged.given.1) (never-0 c.before.judged.given.0.0), refl)
-
-enum_told : tie.Need-enum-told
-enum_told c = search rules
-
-returns-5 : tie.Need-returns-5
-returns-5 c =
-    let a = c.before in
-    let j = a.before.before in
-    (no_room _ _ _ _ _ (omega arith) (said j.before) (allows j.judge-piece.result j.judge-piece.ensures a.enum_told.given.1) (omega arith), refl)
+returns-4 c = (no_room _ _ _ _ _ (omega arith) (said c.before) (omega arith), refl)
 
 sub-if5 : tie.Need-overflow-sub-if5
 sub-if5 c = search rules
 
 slice-len-requires : tie.Need-slice-len-requires
-slice-len-requires c κs = let s = c.before.before.before.before in len-said (slice_of s.before.before.before.before.before.before.before.args.packet) (said s)
+slice-len-requires c κs = len-said (slice_of c.before.before.before.before.before.before.before.before.args.packet) (said c.before)
 
-returns-6 : tie.Need-returns-6
-returns-6 c =
-    let a = c.before.before.before in
-    let j = a.before.before in
-    (no_room _ _ _ _ _ (omega arith) (said j.before) (allows j.judge-piece.result j.judge-piece.ensures a.enum_told.given.1) (omega arith), refl)
+returns-5 : tie.Need-returns-5
+returns-5 c = (no_room _ _ _ _ _ (omega arith) (said c.before.before.before) (omega arith), refl)
 
 write-slice-requires : tie.Need-write-slice-requires
-write-slice-requires c κs = may_write _ (said c.before.before.before.before.before.before.before) _ _ _ (omega arith) (omega arith)
+write-slice-requires c κs = may_write _ (said c.before.before.before.before) _ _ _ (omega arith) (omega arith)
 
 same_length : tie.Need-same-length
 same_length c = search rules
 
-returns-7 : tie.Need-returns-7
-returns-7 c =
+returns-6 : tie.Need-returns-6
+returns-6 c =
     let w = c.before.before.write-slice.ensures in
-    let a = c.before.before.before.before.before.before.before in
-    let j = a.before.before in
-    (put-to _ _ _ _ _ (omega arith) (said j.before) (allows j.judge-piece.result j.judge-piece.ensures a.enum_told.given.1) (omega arith) w.0, w.1)
+    (put-to _ _ _ _ _ (omega arith) (said c.before.before.before.before.before.before.before) (omega arith) w.0, w.1)
 
 pub put-slice-spec : {M : Type 1} → statement M
 put-slice-spec =
@@ -84,14 +61,10 @@ put-slice-spec =
     returns-2
     too-large-requires
     returns-3
-    judge-piece-requires
-    enum-known-judged
     returns-4
-    enum_told
-    returns-5
     sub-if5
     slice-len-requires
-    returns-6
+    returns-5
     write-slice-requires
     same_length
-    returns-7)
+    returns-6)

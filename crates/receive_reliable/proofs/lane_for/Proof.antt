@@ -11,10 +11,10 @@ enum-known-held : tie.Need-enum-known-held
 enum-known-held c = search rules
 
 returns : tie.Need-returns
-returns c = sym (not-open c.before.args.held c.before.args.free c.match.keys2)
+returns c = sym (ap (λ (x : Held). lane_for_of x c.before.before.before.args.free) c.before.held.given.1)
 
 returns-2 : tie.Need-returns-2
-returns-2 c = sym (ap (λ (x : Held). lane_for_of x c.before.before.before.args.free) c.before.held.given.1)
+returns-2 c = sym (not-open c.before.args.held c.before.args.free c.match.keys2)
 
 pub lane-for-spec : {M : Type 1} → statement M
 lane-for-spec = tie.close (tie.spec enum-known-held returns returns-2)

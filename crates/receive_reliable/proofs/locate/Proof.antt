@@ -29,11 +29,11 @@ returns-3 c =
     let no_cell = found.before.before.before.before in
     rw (← no_cell.before.find.ensures, le-ltb _ _ no_cell.if1.false, ← found.before.find2.ensures, lt-ltb _ _ found.if2.false, c.if3.true)
 
-mul-charge : tie.Need-overflow-mul-charge
-mul-charge c = search rules
+mul-t24 : tie.Need-overflow-mul-t24
+mul-t24 c = search rules
 
-element-copy-out-charge : tie.Need-element-copy-out-charge
-element-copy-out-charge c = search rules
+element-copy-out-t27 : tie.Need-element-copy-out-t27
+element-copy-out-t27 c = search rules
 
 returns-4 : tie.Need-returns-4
 unfolding held_by_of
@@ -45,4 +45,4 @@ returns-4 c =
 pub locate-spec : {M : Type 1} → statement M
 locate-spec =
     tie.close
-    (tie.spec find-requires returns find-requires-2 returns-2 element-copy-out-done returns-3 mul-charge element-copy-out-charge returns-4)
+    (tie.spec find-requires returns find-requires-2 returns-2 element-copy-out-done returns-3 mul-t24 element-copy-out-t27 returns-4)

@@ -160,60 +160,6 @@ slice-aggregate-text-17 c = search rules
 text-requires-17 : tie.Need-text-requires-17
 text-requires-17 c κs = search rules
 
-enum-told-18 : tie.Need-enum-told-18
-enum-told-18 c = search rules
-
-slice-aggregate-text-18 : tie.Need-slice-aggregate-text-18
-slice-aggregate-text-18 c = search rules
-
-text-requires-18 : tie.Need-text-requires-18
-text-requires-18 c κs = search rules
-
-enum-told-19 : tie.Need-enum-told-19
-enum-told-19 c = search rules
-
-slice-aggregate-text-19 : tie.Need-slice-aggregate-text-19
-slice-aggregate-text-19 c = search rules
-
-text-requires-19 : tie.Need-text-requires-19
-text-requires-19 c κs = search rules
-
-enum-told-20 : tie.Need-enum-told-20
-enum-told-20 c = search rules
-
-slice-aggregate-text-20 : tie.Need-slice-aggregate-text-20
-slice-aggregate-text-20 c = search rules
-
-text-requires-20 : tie.Need-text-requires-20
-text-requires-20 c κs = search rules
-
-enum-told-21 : tie.Need-enum-told-21
-enum-told-21 c = search rules
-
-slice-aggregate-text-21 : tie.Need-slice-aggregate-text-21
-slice-aggregate-text-21 c = search rules
-
-text-requires-21 : tie.Need-text-requires-21
-text-requires-21 c κs = search rules
-
-enum-told-22 : tie.Need-enum-told-22
-enum-told-22 c = search rules
-
-slice-aggregate-text-22 : tie.Need-slice-aggregate-text-22
-slice-aggregate-text-22 c = search rules
-
-text-requires-22 : tie.Need-text-requires-22
-text-requires-22 c κs = search rules
-
-enum-told-23 : tie.Need-enum-told-23
-enum-told-23 c = search rules
-
-slice-aggregate-text-23 : tie.Need-slice-aggregate-text-23
-slice-aggregate-text-23 c = search rules
-
-text-requires-23 : tie.Need-text-requires-23
-text-requires-23 c κs = search rules
-
 same_length : tie.Need-same-length
 same_length c = search rules
 
@@ -333,48 +279,6 @@ returns-17 : tie.Need-returns-17
 unfolding places
 returns-17 c = says-as _ _ _ _ _ _ (sym (ap refusal_of c.before.before.before.before.before.enum-told17.given.1)) c.before.before.text17.ensures
 
-same-length-18 : tie.Need-same-length-18
-same-length-18 c = search rules
-
-returns-18 : tie.Need-returns-18
-unfolding places
-returns-18 c = says-as _ _ _ _ _ _ (sym (ap refusal_of c.before.before.before.before.before.enum-told18.given.1)) c.before.before.text18.ensures
-
-same-length-19 : tie.Need-same-length-19
-same-length-19 c = search rules
-
-returns-19 : tie.Need-returns-19
-unfolding places
-returns-19 c = says-as _ _ _ _ _ _ (sym (ap refusal_of c.before.before.before.before.before.enum-told19.given.1)) c.before.before.text19.ensures
-
-same-length-20 : tie.Need-same-length-20
-same-length-20 c = search rules
-
-returns-20 : tie.Need-returns-20
-unfolding places
-returns-20 c = says-as _ _ _ _ _ _ (sym (ap refusal_of c.before.before.before.before.before.enum-told20.given.1)) c.before.before.text20.ensures
-
-same-length-21 : tie.Need-same-length-21
-same-length-21 c = search rules
-
-returns-21 : tie.Need-returns-21
-unfolding places
-returns-21 c = says-as _ _ _ _ _ _ (sym (ap refusal_of c.before.before.before.before.before.enum-told21.given.1)) c.before.before.text21.ensures
-
-same-length-22 : tie.Need-same-length-22
-same-length-22 c = search rules
-
-returns-22 : tie.Need-returns-22
-unfolding places
-returns-22 c = says-as _ _ _ _ _ _ (sym (ap refusal_of c.before.before.before.before.before.enum-told22.given.1)) c.before.before.text22.ensures
-
-same-length-23 : tie.Need-same-length-23
-same-length-23 c = search rules
-
-returns-23 : tie.Need-returns-23
-unfolding places
-returns-23 c = says-as _ _ _ _ _ _ (sym (ap refusal_of c.before.before.before.before.before.enum-told23.given.1)) c.before.before.text23.ensures
-
 pub refusal-spec : {M : Type 1} → statement M
 refusal-spec =
     tie.close
@@ -430,24 +334,6 @@ refusal-spec =
     enum-told-17
     slice-aggregate-text-17
     text-requires-17
-    enum-told-18
-    slice-aggregate-text-18
-    text-requires-18
-    enum-told-19
-    slice-aggregate-text-19
-    text-requires-19
-    enum-told-20
-    slice-aggregate-text-20
-    text-requires-20
-    enum-told-21
-    slice-aggregate-text-21
-    text-requires-21
-    enum-told-22
-    slice-aggregate-text-22
-    text-requires-22
-    enum-told-23
-    slice-aggregate-text-23
-    text-requires-23
     same_length
     returns
     same-length-2
@@ -481,16 +367,4 @@ refusal-spec =
     same-length-16
     returns-16
     same-length-17
-    returns-17
-    same-length-18
-    returns-18
-    same-length-19
-    returns-19
-    same-length-20
-    returns-20
-    same-length-21
-    returns-21
-    same-length-22
-    returns-22
-    same-length-23
-    returns-23)
+    returns-17)

@@ -31,8 +31,8 @@ mul-start c = omega arith
 add_start : tie.Need-overflow-add-start invariant-loop decreases-loop
 add_start c = omega arith
 
-piece-len-requires : tie.Need-piece-len-requires invariant-loop decreases-loop
-piece-len-requires c κs =
+slice-len-requires : tie.Need-slice-len-requires invariant-loop decreases-loop
+slice-len-requires c κs =
     let s = c.before.before.before.before in
     (s.requires.0, omega (arith, c.before.before.num-slices.ensures))
 
@@ -53,7 +53,7 @@ loop-again c =
     let sized = c.before.before.before.before in
     let l = sized.before.before in
     let n = l.before.num-slices.ensures in
-    (omega arith, omega arith, put-turn _ _ _ _ _ _ _ _ _ n sized.piece-len.ensures (omega arith) (omega arith) c.before.before.put_item.ensures ∙ l.loop.invariant.2)
+    (omega arith, omega arith, put-turn _ _ _ _ _ _ _ _ _ n sized.slice-len.ensures (omega arith) (omega arith) c.before.before.put_item.ensures ∙ l.loop.invariant.2)
 
 add-result : tie.Need-overflow-add-result invariant-loop decreases-loop
 add-result c = omega arith
@@ -76,7 +76,7 @@ put-slices-spec =
     loop-holds
     mul-start
     add_start
-    piece-len-requires
+    slice-len-requires
     add-put-item
     put-item-requires
     add-i

@@ -1,7 +1,7 @@
 -- `session_send::call` meets its contract: what is lent to `answer` are parts of the memory, and the rest is as it was. Assumes nothing.
 use borrow.Author.Rules.{rules}
 use native.Mathlib.Omega.{arith}
-use Rattle.memory.proofs.Back.{keeps}
+use Rattle.session_send.proofs.Back.{keeps}
 use Rattle.session_send.proofs.call.Statement.{statement}
 use Rattle.session_send.proofs.call.Tie as tie
 

@@ -34,7 +34,7 @@ returns-4 : tie.Need-returns-4
 returns-4 c =
     let new = c.before in
     let start = new.before.before.before.before.before.before in
-    new-id _ _ _ _ (fine new.before.before.before) new.before.before.if2.false new.if3.false false (absent start.args.self start.args.id _ (sym start.requires.1) c.match.keys1).1
+    new-id _ _ _ _ (fine new.before.before.before) new.before.before.if2.false new.if3.false false (absent start.args.self start.args.id _ (sym start.requires.1) c.match.keys2).1
 
 returns-5 : tie.Need-returns-5
 returns-5 c = bad-store _ _ _ _ (sym c.before.stores-hold.ensures ∙ c.if1.false)

@@ -31,22 +31,11 @@ returns-3 c = too_many _ _ _ _ _ (goes c.before.before) c.before.if1.false c.if2
 enum-known-held : tie.Need-enum-known-held
 enum-known-held c = search rules
 
-judge-new-requires : tie.Need-judge-new-requires
-judge-new-requires c κs = search rules
-
-returns-4 : tie.Need-returns-4
-returns-4 c =
-    let few = c.before.before in
-    let told = few.before.before in
-    let start = told.before.before.before in
-    ap (λ (x : SliceSpot). slice_to x c.judge-new.result) (not-open start.args.held start.args.free c.before.match2.keys2)
-    ∙ is-fresh _ _ _ _ _ (goes told) few.before.if1.false few.if2.false _ (no-lane-here start.args.self start.args.id (not-held _ _ _ _ (goes told)) _ (sym start.requires.1) c.before.match2.keys2) c.judge-new.ensures
-
 mul-if3 : tie.Need-overflow-mul-if3
 mul-if3 c = search rules
 
-returns-5 : tie.Need-returns-5
-returns-5 c =
+returns-4 : tie.Need-returns-4
+returns-4 c =
     let few = c.before.before.before.before in
     let told = few.before.before in
     let start = told.before.before.before in
@@ -54,13 +43,24 @@ returns-5 c =
     ap (λ (x : Held). lane_for_of x start.args.free) c.before.before.held.given.1
     ∙ is_open _ _ _ _ _ (goes told) few.before.if1.false few.if2.false _ _ h.1 h.0 (same_count _ _ _ _ h.2 c.if3.true)
 
-returns-6 : tie.Need-returns-6
-returns-6 c =
+returns-5 : tie.Need-returns-5
+returns-5 c =
     let few = c.before.before.before.before in
     let told = few.before.before in
     let start = told.before.before.before in
     let h = open-held _ _ start.requires.0 _ _ (sym start.requires.1 ∙ c.before.before.held.given.1) in
     is_open _ _ _ _ _ (goes told) few.before.if1.false few.if2.false _ _ h.1 h.0 (other-count _ _ _ _ h.2 c.if3.false)
+
+fresh-requires : tie.Need-fresh-requires
+fresh-requires c κs = search rules
+
+returns-6 : tie.Need-returns-6
+returns-6 c =
+    let few = c.before.before in
+    let told = few.before.before in
+    let start = told.before.before.before in
+    ap (λ (x : SliceSpot). slice_to x c.fresh.result) (not-open start.args.held start.args.free c.before.match2.keys2)
+    ∙ is-fresh _ _ _ _ _ (goes told) few.before.if1.false few.if2.false _ (no-lane-here start.args.self start.args.id (not-held _ _ _ _ (goes told)) _ (sym start.requires.1) c.before.match2.keys2) c.fresh.ensures
 
 pub slice-answer-spec : {M : Type 1} → statement M
 slice-answer-spec =
@@ -72,8 +72,8 @@ slice-answer-spec =
     returns-2
     returns-3
     enum-known-held
-    judge-new-requires
-    returns-4
     mul-if3
+    returns-4
     returns-5
+    fresh-requires
     returns-6)

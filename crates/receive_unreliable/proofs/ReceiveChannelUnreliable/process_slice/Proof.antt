@@ -3,7 +3,7 @@ use mathlib.Core.Path.{refl}
 use native.Mathlib.Omega.{arith}
 use Rattle.words.proofs.Tables.{part-size}
 use Rattle.channel.proofs.Good.{lane-end}
-use Rattle.receive_unreliable.proofs.Gives.{InLane, lane-told, slice-dropped, slice-stopped, lane_inside, lane_low, within, start_fits, slice-refused, taken-fits, slice_taken}
+use Rattle.receive_unreliable.proofs.Gives.{InLane, lane-told, slice-left, lane_inside, lane_low, within, start_fits, slice-refused, taken-fits, slice_taken}
 use borrow.Author.Rules.{rules}
 use Rattle.receive_unreliable.proofs.ReceiveChannelUnreliable.process_slice.Statement.{statement}
 use Rattle.receive_unreliable.proofs.ReceiveChannelUnreliable.process_slice.Tie as tie
@@ -32,17 +32,8 @@ slice-answer-requires c κs = (c.before.before.before.before.before.before.befor
 enum_told : tie.Need-enum-told
 enum_told c = search rules
 
-enum-told-2 : tie.Need-enum-told-2
-enum-told-2 c = search rules
-
 returns : tie.Need-returns
-returns c = let told = c.before.before in slice-dropped _ (start told).requires _ _ _ _ _ _ _ _ told.slice-answer.result told.slice-answer.ensures c.enum-told2.given.1
-
-enum-known-judged : tie.Need-enum-known-judged
-enum-known-judged c = search rules
-
-returns-2 : tie.Need-returns-2
-returns-2 c = let told = c.before.before.before in slice-stopped _ (start told).requires _ _ _ _ _ _ _ _ told.slice-answer.result _ told.slice-answer.ensures c.before.judged.given.1
+returns c = slice-left _ (start c.before).requires _ _ _ _ _ _ _ _ c.before.slice-answer.result c.before.slice-answer.ensures c.match.keys2
 
 lane-for-requires : tie.Need-lane-for-requires
 lane-for-requires c κs = search rules
@@ -81,7 +72,7 @@ part-process-slice-end : tie.Need-slice-bounds-process-slice-end
 part-process-slice-end c = omega (arith, within (in_lane c.before.before))
 
 process-slice-requires : tie.Need-process-slice-requires
-process-slice-requires c κs = c.before.start.ensures.1
+process-slice-requires c κs = (start_fits (in_lane c.before.before.before) _ _ c.before.start.ensures).valid
 
 enum-known-answer : tie.Need-enum-known-answer
 enum-known-answer c = search rules
@@ -89,27 +80,23 @@ enum-known-answer c = search rules
 same_length : tie.Need-same-length
 same_length c = search rules
 
-returns-3 : tie.Need-returns-3
-returns-3 c =
+returns-2 : tie.Need-returns-2
+returns-2 c =
     let told = c.before.before.before.before.before.before.before.before.before in
-    slice-refused (in_lane told) _ _ c.before.before.before.before.before.before.before.start.ensures.0 _ (part-size _ _) _ _ c.before.before.before.before.before.process-slice.ensures _ c.before.answer.given.1
+    slice-refused (in_lane told) _ _ c.before.before.before.before.before.before.before.start.ensures _ (part-size _ _) _ _ c.before.before.before.before.before.process-slice.ensures _ c.before.answer.given.1
 
 with-lane-requires : tie.Need-with-lane-requires
 with-lane-requires c κs =
     let told = c.before.before.before.before.before.before.before in
-    ((start told.before.before.before).requires, taken-fits (in_lane told) _ _ c.before.before.before.before.before.start.ensures.0 _ (part-size _ _) _ _ c.before.before.before.process-slice.ensures c.match2.keys2)
-
-missing-requires : tie.Need-missing-requires
-missing-requires c κs = c.before.before.before.before.process-slice.ensures.valid
+    ((start told.before.before.before).requires, taken-fits (in_lane told) _ _ c.before.before.before.before.before.start.ensures _ (part-size _ _) _ _ c.before.before.before.process-slice.ensures c.match2.keys2)
 
 same-length-2 : tie.Need-same-length-2
 same-length-2 c = search rules
 
-returns-4 : tie.Need-returns-4
-returns-4 c =
-    let kept = c.before in
-    let told = kept.before.before.before.before.before.before.before.before in
-    slice_taken (in_lane told) _ _ kept.before.before.before.before.before.before.start.ensures.0 _ (part-size _ _) _ _ kept.before.before.before.before.process-slice.ensures kept.before.match2.keys2 _ kept.with-lane.ensures _ c.missing.ensures
+returns-3 : tie.Need-returns-3
+returns-3 c =
+    let told = c.before.before.before.before.before.before.before.before in
+    slice_taken (in_lane told) _ _ c.before.before.before.before.before.before.start.ensures _ (part-size _ _) _ _ c.before.before.before.before.process-slice.ensures c.before.match2.keys2 _ c.with-lane.ensures
 
 pub process-slice-spec : {M : Type 1} → statement M
 process-slice-spec =
@@ -119,10 +106,7 @@ process-slice-spec =
     lowest-free-requires
     slice-answer-requires
     enum_told
-    enum-told-2
     returns
-    enum-known-judged
-    returns-2
     lane-for-requires
     mul-stored
     element-copy-out-stored
@@ -136,8 +120,7 @@ process-slice-spec =
     process-slice-requires
     enum-known-answer
     same_length
-    returns-3
+    returns-2
     with-lane-requires
-    missing-requires
     same-length-2
-    returns-4)
+    returns-3)

@@ -68,27 +68,27 @@ returns-4 c =
 enum-known-opened : tie.Need-enum-known-opened
 enum-known-opened c = search rules
 
-enum_told : tie.Need-enum-told
-enum_told c = search rules
-
-judge-new-requires : tie.Need-judge-new-requires
-judge-new-requires c κs = search rules
-
-returns-5 : tie.Need-returns-5
-unfolding lane_spot
-returns-5 c =
-    let few = c.before.before.before in
-    let a = few.before.before.before.before.before.before.before.before.args in
-    ap (λ (x : Opened). slice_to (lane_for_of x a.free) c.judge-new.result) c.before.enum_told.given.1 ∙ c.judge-new.ensures ∙ rw (entered few, in-none a.self a.id (sym few.before.before.before.before.before.before.before.before.requires.1 ∙ c.before.enum_told.given.1))
-
 mul-if6 : tie.Need-overflow-mul-if6
 mul-if6 c = search rules
 
+returns-5 : tie.Need-returns-5
+returns-5 c = ap (λ (x : Opened). lane_for_of x c.before.before.before.before.before.before.before.before.before.before.before.before.args.free) c.before.before.opened.given.1 ∙ rw (eq-eqb _ _ c.if6.true) at (counted c.before)
+
 returns-6 : tie.Need-returns-6
-returns-6 c = ap (λ (x : Opened). lane_for_of x c.before.before.before.before.before.before.before.before.before.before.before.before.args.free) c.before.before.opened.given.1 ∙ rw (eq-eqb _ _ c.if6.true) at (counted c.before)
+returns-6 c = rw (ne_eqb _ _ c.if6.false) at (counted c.before)
+
+enum_told : tie.Need-enum-told
+enum_told c = search rules
+
+fresh-requires : tie.Need-fresh-requires
+fresh-requires c κs = search rules
 
 returns-7 : tie.Need-returns-7
-returns-7 c = rw (ne_eqb _ _ c.if6.false) at (counted c.before)
+unfolding lane_spot
+returns-7 c =
+    let few = c.before.before.before in
+    let a = few.before.before.before.before.before.before.before.before.args in
+    ap (λ (x : Opened). slice_to (lane_for_of x a.free) c.fresh.result) c.before.enum_told.given.1 ∙ c.fresh.ensures ∙ rw (entered few, in-none a.self a.id (sym few.before.before.before.before.before.before.before.before.requires.1 ∙ c.before.enum_told.given.1))
 
 returns-8 : tie.Need-returns-8
 unfolding lane_spot entry_refusal
@@ -107,10 +107,10 @@ slice-answer-spec =
     returns-3
     returns-4
     enum-known-opened
-    enum_told
-    judge-new-requires
-    returns-5
     mul-if6
+    returns-5
     returns-6
+    enum_told
+    fresh-requires
     returns-7
     returns-8)

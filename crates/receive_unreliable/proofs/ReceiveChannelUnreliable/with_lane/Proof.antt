@@ -35,7 +35,7 @@ sub_self : tie.Need-overflow-sub-self
 sub_self c = lane-used _ c.before.before.before.before.requires.0 _ (low c.before.before.before.before)
 
 add-self : tie.Need-overflow-add-self
-add-self c = let p = c.before.before.before.before.before.requires in rw c.before.before.before.keep.ensures.0 (omega (arith, p.1.room, charge-most _ p.1.valid p.1.some, p.0.settings.max-most))
+add-self c = let p = c.before.before.before.before.before.requires in rw c.before.before.before.keep.ensures (omega (arith, p.1.room, charge-most _ p.1.valid p.1.some, p.0.settings.max-most))
 
 element-write-self : tie.Need-element-write-self
 element-write-self c = low c.before.before.before.before.before
@@ -82,7 +82,7 @@ add-self-3 c = let h = row c.before.before.before.before.before.before in omega 
 returns : tie.Need-returns
 unfolding with_piece with_whole
 returns c =
-    let kept = c.before.before.before.before.keep.ensures.0 in
+    let kept = c.before.before.before.before.keep.ensures in
     let whole : is_whole c.before.before.before.before.before.before.args.constructor ≡ true = sym (ap (λ (k : Kept). k.whole) kept) ∙ c.if1.true in
     rw (kept, whole)
 
@@ -104,7 +104,7 @@ element-write-self-9 c = low c.before.before.before.before.before.before
 returns-2 : tie.Need-returns-2
 unfolding with_piece with_open
 returns-2 c =
-    let kept = c.before.before.before.before.keep.ensures.0 in
+    let kept = c.before.before.before.before.keep.ensures in
     let more : is_whole c.before.before.before.before.before.before.args.constructor ≡ false = sym (ap (λ (k : Kept). k.whole) kept) ∙ c.if1.false in
     rw (kept, more, c.before.before.before.before.before.message-id.ensures)
 

@@ -179,8 +179,8 @@ mul-piece c = let h = (piece c).entry in omega arith
 element-copy-out-piece : tie.Need-element-copy-out-piece invariant-loop decreases-loop
 element-copy-out-piece c = let h = (piece c).entry in omega arith
 
-piece-len-requires : tie.Need-piece-len-requires invariant-loop decreases-loop
-piece-len-requires c κs = let h = piece c.before.before in let g = good (piece-turn c.before.before) in (omega (arith, h.fits), omega (arith, pieces-needed _ _ h.piece))
+slice-len-requires : tie.Need-slice-len-requires invariant-loop decreases-loop
+slice-len-requires c κs = let h = piece c.before.before in let g = good (piece-turn c.before.before) in (omega (arith, h.fits), omega (arith, pieces-needed _ _ h.piece))
 
 goes-requires-2 : tie.Need-goes-requires-2 invariant-loop decreases-loop
 goes-requires-2 c κs = (piece c.before.before.before.before).sent
@@ -226,7 +226,7 @@ sub-left-2 c =
     let e = (piece-put c).before.kind3.given.0 in
     let b = c.before.before.before.before.before.before.before.goes2 in
     let covered = piece-covered (known (piece-turn (piece-put c))) e.0 e.1.0 e.1.1.0 (piece_kind (piece-put c)) c.before.before.before.before.before.before.before.before.if2.true b.result b.ensures c.before.before.before.before.before.before.if3.true in
-    omega (arith, c.before.before.before.before.before.before.before.before.before.piece-len.ensures)
+    omega (arith, c.before.before.before.before.before.before.before.before.before.slice-len.ensures)
 
 add-m-2 : tie.Need-overflow-add-m-2 invariant-loop decreases-loop
 add-m-2 c = let i = piece-turn (piece-put c) in omega (arith, i.loop-test.taken, i.before.loop.inv.1.few, i.before.before.before.before.fits.n)
@@ -241,7 +241,7 @@ loop-again-3 c =
     let b = c.before.before.before.before.before.before.before.goes2 in
     let row = c.before.before.before.before.before.new2 in
     let num = c.before.before.before.num-slices in
-    let size = c.before.before.before.before.before.before.before.before.before.piece-len in
+    let size = c.before.before.before.before.before.before.before.before.before.slice-len in
     let put = c.before.before.put-item2 in (
       omega (arith, i.loop-test.taken),
       piece-chosen (known i) e.0 e.1.0 e.1.1.0 (piece_kind (piece-put c)) c.before.before.before.before.before.before.before.before.if2.true b.result b.ensures c.before.before.before.before.before.before.if3.true row.result row.ensures
@@ -309,7 +309,7 @@ select-spec =
     add-j
     mul-piece
     element-copy-out-piece
-    piece-len-requires
+    slice-len-requires
     goes-requires-2
     add-t60
     new-requires-2

@@ -16,18 +16,9 @@ start-requires-3 c κs = search rules
 start-requires-4 : tie.Need-start-requires-4
 start-requires-4 c κs = search rules
 
-start-requires-5 : tie.Need-start-requires-5
-start-requires-5 c κs = search rules
-
-start-requires-6 : tie.Need-start-requires-6
-start-requires-6 c κs = search rules
-
-start-requires-7 : tie.Need-start-requires-7
-start-requires-7 c κs = search rules
-
 returns : tie.Need-returns
 unfolding Sound
 returns c = search rules
 
 pub start_spec : {M : Type 1} → statement M
-start_spec = tie.close (tie.spec start-requires start-requires-2 start-requires-3 start-requires-4 start-requires-5 start-requires-6 start-requires-7 returns)
+start_spec = tie.close (tie.spec start-requires start-requires-2 start-requires-3 start-requires-4 returns)

@@ -17,15 +17,13 @@ add-t6 : tie.Need-overflow-add-t6
 add-t6 c = search rules
 
 returns : tie.Need-returns
-returns c =
-    let blank = c.before.before.blank.ensures in
-    (rw (eq-eqb _ _ c.before.before.before.if1.true, blank.0), blank.1)
+returns c = rw (eq-eqb _ _ c.before.before.before.if1.true, c.before.before.blank.ensures.0)
 
 mul-t7 : tie.Need-overflow-mul-t7
 mul-t7 c = search rules
 
 returns-2 : tie.Need-returns-2
-returns-2 c = (rw (ne_eqb _ _ c.before.if1.false), c.before.before.before.requires.0)
+returns-2 c = rw (ne_eqb _ _ c.before.if1.false)
 
 pub keep_spec : {M : Type 1} → statement M
 keep_spec = tie.close (tie.spec blank-requires sub-t4 mul-t5 add-t6 returns mul-t7 returns-2)

@@ -7,10 +7,10 @@ empty-requires : tie.Need-empty-requires
 empty-requires c κs = search rules
 
 returns : tie.Need-returns
-returns c = let v = rw c.before.if1.true at c.before.before.requires in (rw c.before.if1.true c.empty.ensures, rw c.empty.ensures v)
+returns c = rw c.before.if1.true c.empty.ensures
 
 returns-2 : tie.Need-returns-2
-returns-2 c = (search rules, rw c.if1.false at c.before.requires)
+returns-2 c = search rules
 
 pub start_spec : {M : Type 1} → statement M
 start_spec = tie.close (tie.spec empty-requires returns returns-2)

@@ -54,24 +54,6 @@ enum-told-16 c = search rules
 enum-told-17 : tie.Need-enum-told-17
 enum-told-17 c = search rules
 
-enum-told-18 : tie.Need-enum-told-18
-enum-told-18 c = search rules
-
-enum-told-19 : tie.Need-enum-told-19
-enum-told-19 c = search rules
-
-enum-told-20 : tie.Need-enum-told-20
-enum-told-20 c = search rules
-
-enum-told-21 : tie.Need-enum-told-21
-enum-told-21 c = search rules
-
-enum-told-22 : tie.Need-enum-told-22
-enum-told-22 c = search rules
-
-enum-told-23 : tie.Need-enum-told-23
-enum-told-23 c = search rules
-
 returns : tie.Need-returns
 returns c = simp c.enum_told.given.1
 
@@ -123,24 +105,6 @@ returns-16 c = simp c.enum-told16.given.1
 returns-17 : tie.Need-returns-17
 returns-17 c = simp c.enum-told17.given.1
 
-returns-18 : tie.Need-returns-18
-returns-18 c = simp c.enum-told18.given.1
-
-returns-19 : tie.Need-returns-19
-returns-19 c = simp c.enum-told19.given.1
-
-returns-20 : tie.Need-returns-20
-returns-20 c = simp c.enum-told20.given.1
-
-returns-21 : tie.Need-returns-21
-returns-21 c = simp c.enum-told21.given.1
-
-returns-22 : tie.Need-returns-22
-returns-22 c = simp c.enum-told22.given.1
-
-returns-23 : tie.Need-returns-23
-returns-23 c = simp c.enum-told23.given.1
-
 pub number-spec : {M : Type 1} → statement M
 number-spec =
     tie.close
@@ -162,12 +126,6 @@ number-spec =
     enum-told-15
     enum-told-16
     enum-told-17
-    enum-told-18
-    enum-told-19
-    enum-told-20
-    enum-told-21
-    enum-told-22
-    enum-told-23
     returns
     returns-2
     returns-3
@@ -184,10 +142,4 @@ number-spec =
     returns-14
     returns-15
     returns-16
-    returns-17
-    returns-18
-    returns-19
-    returns-20
-    returns-21
-    returns-22
-    returns-23)
+    returns-17)

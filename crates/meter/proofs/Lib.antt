@@ -1,9 +1,0 @@
-pub mod Values
-pub mod Bounds
-pub mod Constants
-pub mod Valid
-pub mod Cut
-pub mod Exact
-pub mod Theorems
-pub mod Unique
-pub mod Vectors

@@ -1,3 +1,0 @@
-pub mod Gather
-pub mod Steps
-pub mod Runs

@@ -1,4 +1,0 @@
-pub mod Loads
-pub mod Valid
-pub mod Steps
-pub mod Theorems

@@ -1,4 +1,0 @@
-pub mod Rule
-pub mod Window
-pub mod Steps
-pub mod History
