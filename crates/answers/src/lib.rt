@@ -1,9 +1,10 @@
+#![tactic(auto)]
 // Answers in words that more than one end gives.
 pub mod lent;
 pub mod packets;
 
 // The k-th call of an end, in the n-th line of a script; its answer goes to a place of the page.
-#[derive(Drop)]
+#[derive(Clone, Copy)]
 pub struct Call {
     pub k: usize,
     pub n: u64,

@@ -1,3 +1,4 @@
+#![tactic(auto)]
 // The calls that an end has, and their arguments.
 ghost use Rattle.std.specs.Prelude.{◌≡◌, List, ℕ, length, set, ltb};
 ghost use Rattle.script.specs.Numbers.{number_of};
@@ -17,7 +18,7 @@ const COUNT: usize = 65_535;
 // The most further numbers of a call that takes some.
 const MORE: usize = 192;
 
-#[derive(Drop)]
+#[derive(Clone, Copy)]
 pub enum Fault {
     Missing,
     NotANumber,
@@ -28,7 +29,7 @@ pub enum Fault {
 }
 
 // A line taken apart: which call of the list, how many numbers and how many bytes; or what is wrong.
-#[derive(Drop)]
+#[derive(Clone, Copy)]
 pub enum Read {
     Call(usize, usize, usize),
     NoEnd,
@@ -37,7 +38,7 @@ pub enum Read {
 }
 
 // How far the arguments are read: the place, how many they are, and the numbers and bytes among them.
-#[derive(Drop)]
+#[derive(Clone, Copy)]
 struct Taken {
     at: usize,
     count: usize,
@@ -45,13 +46,13 @@ struct Taken {
     bytes: usize,
 }
 
-#[derive(Drop)]
+#[derive(Clone, Copy)]
 enum Step {
     Good(Taken),
     Faulty(Fault),
 }
 
-#[derive(Drop)]
+#[derive(Clone, Copy)]
 enum Found {
     At(usize, Word),
     Nothing,

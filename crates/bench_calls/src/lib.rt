@@ -1,3 +1,4 @@
+#![tactic(auto)]
 // What bench/ measures: each call is one scenario, on ends of its own. The answers are sums, by which
 // the program there sees that the work was done.
 ghost use Rattle.std.specs.Prelude.{◌≡◌, length};

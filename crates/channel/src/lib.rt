@@ -1,3 +1,4 @@
+#![tactic(auto)]
 // What the channel ends share: settings and how they are judged, the two stores that they ask for,
 // a part of a store, and the search of a table by id.
 ghost use Rattle.std.specs.Prelude.{◌≡◌, ◌+◌, ◌≤◌, length, take, drop};
@@ -8,7 +9,7 @@ use words::{LANES, MAX_MEMORY, PIECES, Refusal, SLICE_SIZE, SLOTS};
 
 // How many small and sliced messages a channel end holds at a time, how many pieces a message may
 // have, and how many bytes all may take.
-#[derive(Drop)]
+#[derive(Clone, Copy)]
 pub struct Settings {
     pub slots: usize,
     pub lanes: usize,
@@ -17,14 +18,14 @@ pub struct Settings {
 }
 
 // Whether a channel end was set up.
-#[derive(Drop)]
+#[derive(Clone, Copy)]
 pub enum Setup {
     Ready,
     Refused(Refusal),
 }
 
 // Whether it was, and the settings that it has.
-#[derive(Drop)]
+#[derive(Clone, Copy)]
 pub struct Settled {
     pub answer: Setup,
     pub settings: Settings,

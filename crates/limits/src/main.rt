@@ -1,3 +1,4 @@
+#![tactic(auto)]
 // What a packet can just count, and one more: 65,535 messages, and lengths that take two bytes and four.
 // These packets are too large for a script.
 //

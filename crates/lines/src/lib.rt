@@ -1,3 +1,4 @@
+#![tactic(auto)]
 // Lines of an input that may be endless, through a lent buffer. A line that with its newline does not
 // fit the buffer is told as too long and passed over.
 //
@@ -10,7 +11,7 @@ ghost use Rattle.lines.specs.Lines.{unread, line_to_of, last_of, unended_of, ste
 
 // Where the input stands in the buffer: the bytes from a place to another are read and not told.
 // `over`: they go on a line that is too long. `ended`: no more comes.
-#[derive(Drop)]
+#[derive(Clone, Copy)]
 pub struct Lines {
     from: usize,
     to: usize,
@@ -20,7 +21,7 @@ pub struct Lines {
 
 // What is next: a line, by its place in the buffer and the place after it; a line that is too long;
 // the end of the input; or more is to be read first.
-#[derive(Drop)]
+#[derive(Clone, Copy)]
 pub enum Line {
     At(usize, usize),
     TooLong,
@@ -29,7 +30,7 @@ pub enum Line {
 }
 
 // The answer, and where the input then stands.
-#[derive(Drop)]
+#[derive(Clone, Copy)]
 pub struct Step {
     pub line: Line,
     pub lines: Lines,

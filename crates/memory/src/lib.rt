@@ -1,3 +1,4 @@
+#![tactic(auto)]
 // The memory of a session. Each end's part lies in a larger buffer, one end's behind the other's.
 ghost use Rattle.std.specs.Prelude.{length};
 ghost use Rattle.memory.specs.Memory.{SpanGives};
@@ -68,7 +69,7 @@ pub const BYTES: usize = 49_152;
 pub const PAGE: usize = 4_096;
 
 // A part of a buffer.
-#[derive(Drop)]
+#[derive(Clone, Copy)]
 pub struct Span {
     pub start: usize,
     pub end: usize,

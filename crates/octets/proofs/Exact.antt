@@ -12,7 +12,6 @@ use lib.Seq.{drop-cons, drop-append_seam, length-take-le}
 use lib.Dec.{ltb, leb}
 use Rattle.words.specs.Choice.{pick}
 use Rattle.words.specs.Lists.{splice}
-use Rattle.words.proofs.Lists.{all_drop, all_left}
 use Rattle.words.proofs.Splice.{length-splice}
 use Rattle.words.proofs.Suffix as suffix
 use Rattle.octets.specs.Reader.{Res, ok, fault, then, Reader, ◌>>=◌, ◌>>◌, give, need, byte, pair, bytes}
@@ -249,8 +248,11 @@ pub data Made {A B : Type 0} (f : A → B) (R : Spelling A) (at : ℕ) : B → L
 pub exact-made : {A B : Type 0} {m : Reader A} {R : Spelling A} (f : A → B) → Exact m R → Exact (◌>>=◌ m (λ a. give (f a))) (Made f R)
 exact-made {A} {B} {m} {R} f l = exact-as one two (exact-then l (λ a. exact-give (f a)))
   where
+    of : {at next : ℕ} {a : A} {b : B} {xs ys : List ℕ} → R at a xs → Given (f a) next b ys → Made f R at b (xs ++ ys)
+    of {xs = xs} u given = rw (append-nil xs) (made u)
+
     one : (at : ℕ) (b : B) (bs : List ℕ) → Then R (λ a. Given (f a)) at b bs → Made f R at b bs
-    one at b bs (both {xs = xs} u given) = rw (append-nil xs) (made u)
+    one at b bs (both u g) = of u g
 
     two : (at : ℕ) (b : B) (bs : List ℕ) → Made f R at b bs → Then R (λ a. Given (f a)) at b bs
     two at b bs (made u) = rw (← append-nil bs) (both u given)
@@ -289,8 +291,11 @@ module _ {A B : Type 0} {m : Reader A} {j : A → Reader (Unit {0})} {R : Spelli
   pub exact-kept : (f : A → B) → Exact m R → ((a : A) → Exact (j a) (Only (P a))) → Exact (◌>>=◌ m (λ a. ◌>>◌ (j a) (give (f a)))) (Kept f P R)
   exact-kept f l r = exact-as one two (exact-then l (λ a. exact-if (r a) (exact-give (f a))))
     where
+      of : {at next : ℕ} {a : A} {b : B} {xs ys : List ℕ} → R at a xs → P a → Given (f a) next b ys → Kept f P R at b (xs ++ ys)
+      of {xs = xs} u p given = rw (append-nil xs) (kept u p)
+
       one : (at : ℕ) (b : B) (bs : List ℕ) → Then R (λ a. If (P a) (Given (f a))) at b bs → Kept f P R at b bs
-      one at b bs (both {xs = xs} u (judged p given)) = rw (append-nil xs) (kept u p)
+      one at b bs (both u (judged p g)) = of u p g
 
       two : (at : ℕ) (b : B) (bs : List ℕ) → Kept f P R at b bs → Then R (λ a. If (P a) (Given (f a))) at b bs
       two at b bs (kept u p) = rw (← append-nil bs) (both u (judged p given))
@@ -332,7 +337,13 @@ pub data RunAt (at : ℕ) : Part → List ℕ → Type 0 where
   run_at : {n : ℕ} {a : List ℕ} (bs : List ℕ) → Varint n a → length bs ≡ n → RunAt at (record { place = at + length a; len = n }) (a ++ bs)
 
 parts-run : (at : ℕ) (p : Part) (l : List ℕ) → Then (λ at. Varint) (λ n. Made (λ b. record { place = b; len = n }) (BytesSpelt n)) at p l → RunAt at p l
-parts-run at p l (both v (made (n-bytes {bs} e))) = run_at bs v e
+parts-run at p l (both v m) = of v m
+  where
+    bytes_of : {n : ℕ} {a bs : List ℕ} (next b : ℕ) → next ≡ at + length a → Varint n a → BytesSpelt n next b bs → RunAt at (record { place = b; len = n }) (a ++ bs)
+    bytes_of next b e v (n-bytes {bs} q) = rw e (run_at bs v q)
+
+    of : {n : ℕ} {p : Part} {a bs : List ℕ} → Varint n a → Made (λ b. record { place = b; len = n }) (BytesSpelt n) (at + length a) p bs → RunAt at p (a ++ bs)
+    of v (made m) = bytes_of _ _ refl v m
 
 run-parts : (at : ℕ) (p : Part) (l : List ℕ) → RunAt at p l → Then (λ at. Varint) (λ n. Made (λ b. record { place = b; len = n }) (BytesSpelt n)) at p l
 run-parts at p l (run_at bs v e) = both v (made (n-bytes e))

@@ -3,11 +3,10 @@ use Prim.Native.Nat.{ℕ, suc, ◌+◌, ◌-◌, ◌%◌, ◌≤◌}
 use mathlib.Core.Path.{◌≡◌, refl, sym, subst}
 use mathlib.Core.Bool.{Bool, true, false}
 use mathlib.Core.List.{List}
-use native.Mathlib.Omega.{arith}
-use borrow.Author.Tests.{ltb-true, leb-true}
+use borrow.Author.Tests.{leb-true}
 use lib.ListN.{length, get_or}
 use lib.Dec.{ltb, leb}
-use Rattle.octets.specs.Reader.{Res, ok, fault, then, Reader, ◌>>=◌, give, byte, pair, bytes}
+use Rattle.octets.specs.Reader.{Res, ok, fault, then, Reader, ◌>>=◌, give, bytes}
 use Rattle.octets.specs.Varint.{var, form_len_of, more}
 use Rattle.words.specs.Choice.{pick}
 

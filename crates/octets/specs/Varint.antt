@@ -1,8 +1,8 @@
 -- RFC 9000, section 16: integers of variable length. Document 01, part 1. Assumes nothing.
-use Rattle.std.specs.Prelude.{ℕ, zero, suc, ◌+◌, ◌*◌, ◌-◌, ◌/◌, ◌%◌, ◌^◌, Bool, List, [], ◌∷◌, ◌++◌, length, get_or, ltb, leb}
+use Rattle.std.specs.Prelude.{ℕ, zero, suc, ◌+◌, ◌*◌, ◌-◌, ◌/◌, ◌%◌, ◌^◌, List, [], ◌∷◌, ◌++◌, length, get_or, ltb, leb}
 use Rattle.words.specs.Sizes.{LIMIT}
 use Rattle.words.specs.Choice.{pick, refusal}
-use Rattle.octets.specs.Reader.{Res, Reader, ok, fault, then, ◌>>=◌, give, bytes}
+use Rattle.octets.specs.Reader.{Res, Reader, ok, fault, ◌>>=◌, give, bytes}
 use Rattle.octets.specs.Writer.{Outcome, outcome}
 use Rattle.octets.specs.declared.Run.{Run}
 use Rattle.octets.specs.declared.Run.TheVariants.{At, Short}

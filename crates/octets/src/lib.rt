@@ -1,3 +1,4 @@
+#![tactic(auto)]
 // Bytes in lent buffers: the integers of variable length of RFC 9000, section 16, two-byte counts,
 // and bytes with their length before them.
 //
@@ -15,21 +16,21 @@ ghost use Rattle.octets.specs.Varint.{var_len, var_bytes, pair_bytes, run_bytes,
 use words::{LIMIT, Refusal};
 
 // What stands at a place: a number and the place after it, or the input ends early.
-#[derive(Drop)]
+#[derive(Clone, Copy)]
 pub enum Got {
     Value(u64, usize),
     Short,
 }
 
 // Bytes that stand in the input: their place and their length, or the input ends early.
-#[derive(Drop)]
+#[derive(Clone, Copy)]
 pub enum Run {
     At(usize, usize),
     Short,
 }
 
 // The answer of a writer: the place after what it wrote, or why it wrote nothing.
-#[derive(Drop)]
+#[derive(Clone, Copy)]
 pub enum Put {
     To(usize),
     Refused(Refusal),

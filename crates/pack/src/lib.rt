@@ -1,3 +1,4 @@
+#![tactic(auto)]
 // Packs and encodes what a sending round chose to send, for reliable and unreliable channels alike.
 // `ids` tells a reliable round from an unreliable one, whose small messages have no ids.
 //
@@ -37,28 +38,28 @@ const ENTRY: usize = 2;
 const HEAD: usize = 4;
 
 // A packed round: how many packets it has, and how long they are, encoded.
-#[derive(Drop)]
+#[derive(Clone, Copy)]
 struct Packed {
     packets: usize,
     bytes: usize,
 }
 
 // Whether a packed round can go.
-#[derive(Drop)]
+#[derive(Clone, Copy)]
 pub enum Verdict {
     Goes,
     Refused(Refusal),
 }
 
 // A counted byte budget: what a round was allowed, and what it spent.
-#[derive(Drop)]
+#[derive(Clone, Copy)]
 pub struct Budget {
     pub allowed: u64,
     pub spent: u64,
 }
 
 // What a round wrote: how many packets, how many bytes, the sequence after the last, and its budget.
-#[derive(Drop)]
+#[derive(Clone, Copy)]
 pub struct Written {
     pub packets: usize,
     pub bytes: usize,
@@ -67,7 +68,7 @@ pub struct Written {
 }
 
 // What came of a round.
-#[derive(Drop)]
+#[derive(Clone, Copy)]
 pub enum Went {
     Sent(Written),
     Refused(Refusal),
@@ -75,7 +76,7 @@ pub enum Went {
 
 // What packing carries from item to item: the packets put out so far, their bytes, and the open
 // group, which is the small messages from the first item on.
-#[derive(Drop)]
+#[derive(Clone, Copy)]
 struct Packing {
     packets: usize,
     bytes: usize,

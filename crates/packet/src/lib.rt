@@ -1,3 +1,4 @@
+#![tactic(auto)]
 // The five kinds of packets: one reader and one writer for all.
 //
 // A packet's messages and ranges stand in tables that the caller lends: three words for a message
@@ -19,7 +20,7 @@ use packet_small::SmallRead;
 use words::Refusal;
 
 // A packet beside its tables.
-#[derive(Drop)]
+#[derive(Clone, Copy)]
 pub enum Packet {
     SmallReliable(packet_small::Small),
     SmallUnreliable(packet_small::Small),
@@ -29,14 +30,14 @@ pub enum Packet {
 }
 
 // A whole packet and how many bytes it used, or the refusal.
-#[derive(Drop)]
+#[derive(Clone, Copy)]
 pub enum Decoded {
     Whole(Packet, usize),
     Refused(Refusal),
 }
 
 // What fills the table of ranges, the highest and how many records there are; and the answer of the reader.
-#[derive(Drop)]
+#[derive(Clone, Copy)]
 struct Found {
     top: Spot,
     count: usize,
@@ -44,7 +45,7 @@ struct Found {
 }
 
 // What was read, and the table of ranges afterwards, by value.
-#[derive(Drop)]
+#[derive(Clone, Copy)]
 pub struct DecodedTable {
     pub answer: Decoded,
     pub ranges: [Range; RANGES],

@@ -1,3 +1,4 @@
+#![tactic(auto)]
 // Packets of acknowledgements, type 4, read and written. Ranges stand in a lent table of records,
 // half-open and rising. A packet says them from the highest down.
 //
@@ -26,35 +27,35 @@ pub const RANGES: usize = 64;
 
 // The numbers from `start` up to, and without, `end`. In C's layout, so that a caller in another language lends records too.
 #[repr(C)]
-#[derive(Drop)]
+#[derive(Clone, Copy)]
 pub struct Range {
     pub start: u64,
     pub end: u64,
 }
 
 // A range that is read, and the place after it, where the range below it stands if there is one.
-#[derive(Drop)]
+#[derive(Clone, Copy)]
 pub struct Spot {
     pub range: Range,
     pub next: usize,
 }
 
 // What a packet says beside its ranges, and how many they are.
-#[derive(Drop)]
+#[derive(Clone, Copy)]
 pub struct Ack {
     pub sequence: Sequence,
     pub count: usize,
 }
 
 // A whole packet and the place after it, or the refusal.
-#[derive(Drop)]
+#[derive(Clone, Copy)]
 pub enum AckRead {
     Whole(Ack, usize),
     Refused(Refusal),
 }
 
 // What fills the table, the highest range and how many records there are; and the answer of the reader.
-#[derive(Drop)]
+#[derive(Clone, Copy)]
 pub struct Found {
     pub top: Spot,
     pub count: usize,
@@ -62,21 +63,21 @@ pub struct Found {
 }
 
 // Start and end of a lower range and the place after it, or the refusal.
-#[derive(Drop)]
+#[derive(Clone, Copy)]
 enum Lower {
     Whole(u64, u64, usize),
     Refused(Refusal),
 }
 
 // Start and end of the highest range, how many are lower, and the place after these; or the refusal.
-#[derive(Drop)]
+#[derive(Clone, Copy)]
 enum Highest {
     Whole(u64, u64, u64, usize),
     Refused(Refusal),
 }
 
 // The place after the lower ranges, or the refusal.
-#[derive(Drop)]
+#[derive(Clone, Copy)]
 enum Walk {
     Until(usize),
     Refused(Refusal),
@@ -84,7 +85,7 @@ enum Walk {
 
 // What is known of the ranges judged so far, from the highest down. What is spare is right only while they rise;
 // where they don't, they are refused for that, whatever the room.
-#[derive(Drop)]
+#[derive(Clone, Copy)]
 pub struct Judgement {
     // whether none is judged yet
     pub first: bool,
@@ -99,14 +100,14 @@ pub struct Judgement {
 }
 
 // Where the next lower range is written, and where the range above it starts.
-#[derive(Drop)]
+#[derive(Clone, Copy)]
 pub struct Pen {
     pub at: usize,
     pub above: u64,
 }
 
 // What is still to be written of the packet, so many ranges by a pen; and the answer of the writer.
-#[derive(Drop)]
+#[derive(Clone, Copy)]
 pub struct Front {
     pub pen: Pen,
     pub left: usize,

@@ -1,3 +1,4 @@
+#![tactic(auto)]
 // Packets of one piece, read and written: type 2, ReliableSlice, and type 3, UnreliableSlice, which
 // has the same layout and judges its payload less. `reliable` tells the two apart.
 ghost use Rattle.std.specs.Prelude.{◌≡◌, ◌+◌, ◌≤◌, ◌<◌, length};
@@ -13,7 +14,7 @@ use octets::{Got, Put, Run};
 use words::{LIMIT, MAX_NUM_SLICES, MessageId, Refusal, SLICE_SIZE, Sequence, SliceIndex};
 
 // A piece, whose payload is a part of the input or of a lent store.
-#[derive(Drop)]
+#[derive(Clone, Copy)]
 pub struct Slice {
     pub sequence: Sequence,
     pub channel_id: u8,
@@ -25,21 +26,21 @@ pub struct Slice {
 }
 
 // A whole packet and the place after it, or the refusal.
-#[derive(Drop)]
+#[derive(Clone, Copy)]
 pub enum SliceRead {
     Whole(Slice, usize),
     Refused(Refusal),
 }
 
 // The packet's number, its channel and the place after them, or the input ends early.
-#[derive(Drop)]
+#[derive(Clone, Copy)]
 enum Front {
     Read(Sequence, u8, usize),
     Short,
 }
 
 // Which piece of how many of which message and the place after it, or the input ends early.
-#[derive(Drop)]
+#[derive(Clone, Copy)]
 enum Label {
     Read(MessageId, SliceIndex, u64, usize),
     Short,

@@ -1,3 +1,4 @@
+#![tactic(auto)]
 // Packets of small messages, read and written: type 0, SmallReliable, and type 1, SmallUnreliable,
 // which is the same without the ids. `ids` tells the two apart.
 //
@@ -24,14 +25,14 @@ pub const RECORD: usize = 3;
 const HEAD: usize = 4;
 
 // A message in the input: its id, where its bytes start, and how many they are; or the input ends early.
-#[derive(Drop)]
+#[derive(Clone, Copy)]
 enum Item {
     Found(MessageId, usize, usize),
     Cut,
 }
 
 // What a packet says beside its messages, and how many they are.
-#[derive(Drop)]
+#[derive(Clone, Copy)]
 pub struct Small {
     pub sequence: Sequence,
     pub channel_id: u8,
@@ -39,14 +40,14 @@ pub struct Small {
 }
 
 // A whole packet and the place after it, or the refusal.
-#[derive(Drop)]
+#[derive(Clone, Copy)]
 pub enum SmallRead {
     Whole(Small, usize),
     Refused(Refusal),
 }
 
 // The place after a run of messages, or the input ends early.
-#[derive(Drop)]
+#[derive(Clone, Copy)]
 enum Walk {
     Until(usize),
     Lost,
@@ -54,7 +55,7 @@ enum Walk {
 
 // What the writer knows of the messages judged so far: whether all are parts of the store, whether
 // varints can say all their numbers, whether all fit, and the room that is then left.
-#[derive(Drop)]
+#[derive(Clone, Copy)]
 struct Judgement {
     stored: bool,
     sayable: bool,

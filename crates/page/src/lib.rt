@@ -1,3 +1,4 @@
+#![tactic(auto)]
 // A page of text that waits to be written: words, numbers and bytes are set down one after the other, and
 // what stands there is written out when there is no room.
 ghost use Rattle.std.specs.Prelude.{◌≡◌, List, [], ◌∷◌, ◌++◌, ◌+◌, ◌-◌, ◌^◌, ◌≤◌, ◌<◌, min, length, get_or, drop, eqb};
@@ -122,7 +123,7 @@ pub fn size(t: &[u64], i: usize) -> usize
 }
 
 // The place after a letter of a line, and which of its numbers is next.
-#[derive(Drop)]
+#[derive(Clone, Copy)]
 struct Next {
     at: usize,
     k: usize,

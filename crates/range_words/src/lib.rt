@@ -1,3 +1,4 @@
+#![tactic(auto)]
 // Ranges as words: a start and an end for each, as a script writes them.
 ghost use Rattle.std.specs.Prelude.{◌≡◌};
 ghost use Rattle.range_words.specs.Words.{table_of, set_down};

@@ -1,3 +1,4 @@
+#![tactic(auto)]
 // The receiving end of a reliable channel, in ordered mode. Small messages are held in cells of one
 // lent store, sliced ones are put together in lanes of the other; messages come out by rising id.
 ghost use Rattle.std.specs.Prelude.{◌≡◌, ◌≤◌, length};
@@ -11,7 +12,7 @@ use slice_constructor::{Collect, SliceConstructor};
 use words::{LANES, LIMIT, MessageId, Refusal, SLICE_SIZE, SLOTS, SliceIndex};
 
 // Entries of free cells and lanes are blank.
-#[derive(Drop)]
+#[derive(Clone, Copy)]
 pub struct ReceiveChannelReliable {
     settings: Settings,
     oldest_pending_message_id: u64,
@@ -28,49 +29,49 @@ pub struct ReceiveChannelReliable {
     constructors: [SliceConstructor; LANES],
 }
 
-#[derive(Drop)]
+#[derive(Clone, Copy)]
 pub struct Made {
     pub answer: Setup,
     pub state: ReceiveChannelReliable,
 }
 
 // What came of a message or a piece: it was taken, it was old or held already, or it was refused.
-#[derive(Drop)]
+#[derive(Clone, Copy)]
 pub enum Arrival {
     Taken,
     Ignored,
     Refused(Refusal),
 }
 
-#[derive(Drop)]
+#[derive(Clone, Copy)]
 pub struct Arrived {
     pub answer: Arrival,
     pub state: ReceiveChannelReliable,
 }
 
 // Which of the two lent stores.
-#[derive(Drop)]
+#[derive(Clone, Copy)]
 pub enum Store {
     Small,
     Lanes,
 }
 
 // The message that comes out next: its id, the store that holds it, its place there and its length.
-#[derive(Drop)]
+#[derive(Clone, Copy)]
 pub enum Look {
     Message(MessageId, Store, usize, usize),
     Nothing,
     Refused(Refusal),
 }
 
-#[derive(Drop)]
+#[derive(Clone, Copy)]
 pub struct Received {
     pub answer: Look,
     pub state: ReceiveChannelReliable,
 }
 
 // Where a message is: whole in a cell or lane of a store, or open in a lane, with its charge.
-#[derive(Drop)]
+#[derive(Clone, Copy)]
 enum Held {
     At(Store, usize),
     Open(usize, usize),
@@ -78,7 +79,7 @@ enum Held {
 }
 
 // The lane that a piece goes to; whether that one is new.
-#[derive(Drop)]
+#[derive(Clone, Copy)]
 struct SlicePlace {
     lane: usize,
     fresh: bool,

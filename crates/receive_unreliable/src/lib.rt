@@ -1,3 +1,4 @@
+#![tactic(auto)]
 // The receiving end of an unreliable channel. Small messages are held in cells of one lent store,
 // sliced ones are put together in lanes of the other; messages come out in the order in which they
 // became whole.
@@ -18,7 +19,7 @@ const ROWS: usize = SLOTS + LANES;
 const DISCARD_AFTER: u64 = 3_000_000_000;
 
 // Entries of free cells and lanes, and those of the queue past `count`, are blank.
-#[derive(Drop)]
+#[derive(Clone, Copy)]
 pub struct ReceiveChannelUnreliable {
     settings: Settings,
     memory_usage_bytes: usize,
@@ -40,76 +41,76 @@ pub struct ReceiveChannelUnreliable {
     queue: [u8; ROWS],
 }
 
-#[derive(Drop)]
+#[derive(Clone, Copy)]
 pub struct Made {
     pub answer: Setup,
     pub state: ReceiveChannelUnreliable,
 }
 
 // What came of a message or a piece: it was taken, dropped for want of memory, or refused.
-#[derive(Drop)]
+#[derive(Clone, Copy)]
 pub enum Arrival {
     Taken,
     Dropped,
     Refused(Refusal),
 }
 
-#[derive(Drop)]
+#[derive(Clone, Copy)]
 pub struct Arrived {
     pub answer: Arrival,
     pub state: ReceiveChannelUnreliable,
 }
 
 // How many open messages were discarded.
-#[derive(Drop)]
+#[derive(Clone, Copy)]
 pub enum Discard {
     Discarded(usize),
     Refused(Refusal),
 }
 
-#[derive(Drop)]
+#[derive(Clone, Copy)]
 pub struct Discarded {
     pub answer: Discard,
     pub state: ReceiveChannelUnreliable,
 }
 
 // Which of the two lent stores.
-#[derive(Drop)]
+#[derive(Clone, Copy)]
 pub enum Store {
     Small,
     Lanes,
 }
 
 // The message that comes out next: the store that holds it, its place there and its length.
-#[derive(Drop)]
+#[derive(Clone, Copy)]
 pub enum Look {
     Message(Store, usize, usize),
     Nothing,
     Refused(Refusal),
 }
 
-#[derive(Drop)]
+#[derive(Clone, Copy)]
 pub struct Received {
     pub answer: Look,
     pub state: ReceiveChannelUnreliable,
 }
 
 // Where a whole message is held: its store, and its cell or lane there.
-#[derive(Drop)]
+#[derive(Clone, Copy)]
 enum Held {
     At(Store, usize),
     Nothing,
 }
 
 // The lane of an open message, with its charge.
-#[derive(Drop)]
+#[derive(Clone, Copy)]
 enum Opened {
     At(usize, usize),
     Nothing,
 }
 
 // The lane that a piece goes to; whether that one is new.
-#[derive(Drop)]
+#[derive(Clone, Copy)]
 struct SlicePlace {
     lane: usize,
     fresh: bool,

@@ -1,3 +1,4 @@
+#![tactic(auto)]
 // Words of an answer, set down one after the other on a page of lent bytes. What doesn't fit is left
 // out whole, so a page never overruns.
 ghost use Rattle.std.specs.Prelude.{◌≡◌, ◌+◌, ◌≤◌, ◌<◌, min, max, ◌++◌, length, get_or, drop};
@@ -61,14 +62,14 @@ pub fn refusal(page: &mut [u8], at: usize, e: Refusal) -> usize
 
 // A part of bytes as they are spelt: one byte, or a stretch, up or of the same, of so many from a byte
 // on.
-#[derive(Drop)]
+#[derive(Clone, Copy)]
 pub enum Part {
     Byte(u8),
     Stretch(bool, u8, usize),
 }
 
 // What stands before a part.
-#[derive(Drop)]
+#[derive(Clone, Copy)]
 pub enum Before {
     Nothing,
     Bare,

@@ -1,3 +1,4 @@
+#![tactic(auto)]
 // A line of a script taken apart: its words, and the numbers and bytes that words spell.
 //
 // Every function answers for every input, in time that grows with the input's length alone.
@@ -8,14 +9,14 @@ ghost use Rattle.script.specs.Numbers.{grown, digits_of, raised, lowered, joined
 ghost use Rattle.script.specs.Bytes.{hex_of, hex, pair_of, pairs_of, then, stretch, plain_of, stretch_of, part_of, Adds, Fills, bytes_of};
 
 // A word of a line: the place of its first letter, and the place after its last.
-#[derive(Drop)]
+#[derive(Clone, Copy)]
 pub struct Word {
     pub start: usize,
     pub end: usize,
 }
 
 // What a word spells, where a number is meant.
-#[derive(Drop)]
+#[derive(Clone, Copy)]
 pub enum Number {
     Value(u64),
     NotANumber,
@@ -23,7 +24,7 @@ pub enum Number {
 }
 
 // What a word spells, where bytes are meant: the place after them.
-#[derive(Drop)]
+#[derive(Clone, Copy)]
 pub enum Bytes {
     To(usize),
     NotBytes,
@@ -31,7 +32,7 @@ pub enum Bytes {
 }
 
 // What a search looks for: a newline, a letter that is no blank, the end of a word, a sign, a point.
-#[derive(Drop)]
+#[derive(Clone, Copy)]
 enum Sought {
     Newline,
     Letter,

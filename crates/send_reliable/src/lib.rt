@@ -1,3 +1,4 @@
+#![tactic(auto)]
 // The sending end of a reliable channel. Messages wait, by rising id, until they are acknowledged; a
 // round chooses what goes, packs it and writes the packets.
 ghost use Rattle.std.specs.Prelude.{◌≡◌, ◌*◌, ◌≤◌, ◌<◌, ◌+◌, ◌-◌, length, ◌++◌};
@@ -24,7 +25,7 @@ const ROWS: usize = SLOTS + LANES;
 // Pieces of all lanes; piece i of lane l is at l × PIECES + i.
 const ALL_PIECES: usize = LANES * PIECES;
 
-#[derive(Drop)]
+#[derive(Clone, Copy)]
 pub enum Sent {
     Never,
     At(u64),
@@ -33,7 +34,7 @@ pub enum Sent {
 // When something was sent: shared by small messages and pieces. `sent` is 0 where it never was, a
 // whole word. Tables have plain numbers, and a row no unused byte, since the compiler copies rows of
 // another shape field by field.
-#[derive(Drop)]
+#[derive(Clone, Copy)]
 pub struct Sending {
     sent: u64,
     time: u64,
@@ -41,7 +42,7 @@ pub struct Sending {
 
 // Where a waiting message lies: a small one's cell and sending; a sliced one's lane, how many of its
 // pieces are acknowledged, and the piece after the last sent one.
-#[derive(Drop)]
+#[derive(Clone, Copy)]
 pub enum Kind {
     Small(usize, Sending),
     Sliced(usize, usize, usize),
@@ -49,7 +50,7 @@ pub enum Kind {
 
 // A waiting message. Its cell or lane is `place`; `acked` and `next` are a sliced one's, `sending` a
 // small one's.
-#[derive(Drop)]
+#[derive(Clone, Copy)]
 pub struct Row {
     id: MessageId,
     len: u32,
@@ -60,14 +61,14 @@ pub struct Row {
     sending: Sending,
 }
 
-#[derive(Drop)]
+#[derive(Clone, Copy)]
 pub struct Piece {
     acked: bool,
     sending: Sending,
 }
 
 // Rows past `count` are blank; the pieces of a lane are blank when a message takes it.
-#[derive(Drop)]
+#[derive(Clone, Copy)]
 pub struct SendChannelReliable {
     channel_id: u8,
     settings: Settings,
@@ -83,47 +84,47 @@ pub struct SendChannelReliable {
     pieces: [Piece; ALL_PIECES],
 }
 
-#[derive(Drop)]
+#[derive(Clone, Copy)]
 pub struct Made {
     pub answer: Setup,
     pub state: SendChannelReliable,
 }
 
 // The id of a message that was queued, or the refusal.
-#[derive(Drop)]
+#[derive(Clone, Copy)]
 pub enum Queue {
     Taken(MessageId),
     Refused(Refusal),
 }
 
-#[derive(Drop)]
+#[derive(Clone, Copy)]
 pub struct Queued {
     pub answer: Queue,
     pub state: SendChannelReliable,
 }
 
 // What came of an acknowledgement; no message may be waiting under its id.
-#[derive(Drop)]
+#[derive(Clone, Copy)]
 pub enum Ack {
     Done,
     Unknown,
     Refused(Refusal),
 }
 
-#[derive(Drop)]
+#[derive(Clone, Copy)]
 pub struct Acked {
     pub answer: Ack,
     pub state: SendChannelReliable,
 }
 
-#[derive(Drop)]
+#[derive(Clone, Copy)]
 pub struct Round {
     pub answer: Went,
     pub state: SendChannelReliable,
 }
 
 // Where a message that is queued goes, or its refusal.
-#[derive(Drop)]
+#[derive(Clone, Copy)]
 enum Place {
     Cell(usize),
     Lane(usize),
@@ -131,7 +132,7 @@ enum Place {
 }
 
 // A waiting message and its row.
-#[derive(Drop)]
+#[derive(Clone, Copy)]
 enum Found {
     At(usize, Row),
     Nothing,
@@ -139,7 +140,7 @@ enum Found {
 
 // What the ack of a small message comes to: an answer that changes nothing, or the row that goes and
 // its cell.
-#[derive(Drop)]
+#[derive(Clone, Copy)]
 enum AckSmall {
     Left(Ack),
     Gone(usize, Row, usize),
@@ -147,7 +148,7 @@ enum AckSmall {
 
 // What the ack of a piece comes to: an answer that changes nothing, or the message's row with its
 // lane, its acknowledged pieces and its cursor.
-#[derive(Drop)]
+#[derive(Clone, Copy)]
 enum AckPiece {
     Left(Ack),
     Marks(usize, Row, usize, usize, usize),
@@ -568,7 +569,7 @@ impl SendChannelReliable {
 const VISIT: usize = 2;
 
 // What a round chose: how many items, and the state with their sendings.
-#[derive(Drop)]
+#[derive(Clone, Copy)]
 struct Selected {
     items: usize,
     state: SendChannelReliable,

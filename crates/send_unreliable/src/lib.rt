@@ -1,3 +1,4 @@
+#![tactic(auto)]
 // The sending end of an unreliable channel. Messages wait in a queue, and a round empties it: what the
 // allowance covers goes once, the rest is dropped for good.
 ghost use Rattle.std.specs.Prelude.{◌≡◌, [], ◌∷◌, ◌++◌, ◌+◌, ◌*◌, ◌≤◌, ◌<◌, length, take};
@@ -20,7 +21,7 @@ const ROWS: usize = SLOTS + LANES;
 
 // The k-th small message that waits lies in cell k and the l-th sliced one in lane l: a round frees all
 // at once, so these are always the lowest free ones. Entries past `count` are blank.
-#[derive(Drop)]
+#[derive(Clone, Copy)]
 pub struct SendChannelUnreliable {
     channel_id: u8,
     settings: Settings,
@@ -32,34 +33,34 @@ pub struct SendChannelUnreliable {
     lens: [usize; ROWS],
 }
 
-#[derive(Drop)]
+#[derive(Clone, Copy)]
 pub struct Made {
     pub answer: Setup,
     pub state: SendChannelUnreliable,
 }
 
 // What came of a message: it waits, it was dropped for want of memory, or it was refused.
-#[derive(Drop)]
+#[derive(Clone, Copy)]
 pub enum Queue {
     Taken,
     Dropped,
     Refused(Refusal),
 }
 
-#[derive(Drop)]
+#[derive(Clone, Copy)]
 pub struct Queued {
     pub answer: Queue,
     pub state: SendChannelUnreliable,
 }
 
-#[derive(Drop)]
+#[derive(Clone, Copy)]
 pub struct Round {
     pub answer: Went,
     pub state: SendChannelUnreliable,
 }
 
 // Where a message goes, the lowest free cell or lane, or what it is told instead.
-#[derive(Drop)]
+#[derive(Clone, Copy)]
 enum Place {
     Cell,
     Lane,
@@ -70,7 +71,7 @@ enum Place {
 // What choosing carries from message to message: what is left of the allowance; how many small and
 // sliced messages were passed, which tells where the next one lies; the id of the next sliced message
 // that goes; and how many items were chosen.
-#[derive(Drop)]
+#[derive(Clone, Copy)]
 struct Selection {
     left: u64,
     small: usize,

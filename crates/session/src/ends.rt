@@ -9,7 +9,7 @@ use session_receive::Receivers;
 use session_send::Senders;
 
 // The end that a line names: of two senders or receivers, whether it is the reliable one.
-#[derive(Drop)]
+#[derive(Clone, Copy)]
 pub enum Which {
     Wire,
     Sc,
@@ -18,7 +18,7 @@ pub enum Which {
     Nothing,
 }
 
-#[derive(Drop)]
+#[derive(Clone, Copy)]
 pub struct Ends {
     pub wire: session_wire::Lent,
     pub sc: session_sc::End,
@@ -27,7 +27,7 @@ pub struct Ends {
 }
 
 // The ends after a call, and the place after its answer.
-#[derive(Drop)]
+#[derive(Clone, Copy)]
 pub struct Told {
     pub ends: Ends,
     pub at: usize,

@@ -1,3 +1,4 @@
+#![tactic(auto)]
 // The script program: a script of packets and calls is read from standard input, and each answer is
 // printed. docs/SCRIPT.md has the language.
 ghost use Rattle.session.specs.Sound.{Sound};
@@ -38,7 +39,7 @@ fn main() {
 
 // Where a script and its answers stand: the lines that are left, how many there were, the place after
 // the last answer, and whether the input has ended.
-#[derive(Drop)]
+#[derive(Clone, Copy)]
 struct Script {
     lines: Lines,
     count: u64,
@@ -47,7 +48,7 @@ struct Script {
 }
 
 // The k-th call of an end, with so many numbers and bytes.
-#[derive(Drop)]
+#[derive(Clone, Copy)]
 struct Request {
     which: Which,
     k: usize,
@@ -55,14 +56,14 @@ struct Request {
     bytes: usize,
 }
 
-#[derive(Drop)]
+#[derive(Clone, Copy)]
 struct Asked {
     script: Script,
     request: Request,
 }
 
 // How far a script is answered.
-#[derive(Drop)]
+#[derive(Clone, Copy)]
 struct Session {
     ends: Ends,
     script: Script,

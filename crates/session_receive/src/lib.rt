@@ -1,3 +1,4 @@
+#![tactic(auto)]
 // Calls on the two receivers, the ordered reliable one and the unreliable one.
 ghost use Rattle.std.specs.Prelude.{◌≡◌, ◌≤◌};
 ghost use Rattle.arguments.specs.Arguments.{leaves, taken_apart_of};
@@ -17,7 +18,7 @@ use receive_unreliable::{Discard, ReceiveChannelUnreliable};
 use words::{MessageId, Refusal, SliceIndex};
 
 // Both receivers, and how much of the stores of each is lent.
-#[derive(Drop)]
+#[derive(Clone, Copy)]
 pub struct Receivers {
     pub reliable: ReceiveChannelReliable,
     pub unreliable: ReceiveChannelUnreliable,
@@ -26,14 +27,14 @@ pub struct Receivers {
 }
 
 // The receivers after a call, and the place after the answer.
-#[derive(Drop)]
+#[derive(Clone, Copy)]
 pub struct Told {
     pub receivers: Receivers,
     pub at: usize,
 }
 
 // A call on its way: the receivers, which of them it is for, and the call; then the place after its answer.
-#[derive(Drop)]
+#[derive(Clone, Copy)]
 struct Turn {
     receivers: Receivers,
     reliable: bool,
@@ -44,7 +45,7 @@ struct Turn {
 
 // What a call answers. A message is in the small store or in the lanes, at a place, and so long; one of
 // the reliable receiver has an id before that.
-#[derive(Drop)]
+#[derive(Clone, Copy)]
 enum Answer {
     Ready,
     Taken,
@@ -61,14 +62,14 @@ enum Answer {
 }
 
 // A turn after its call, and what that answered.
-#[derive(Drop)]
+#[derive(Clone, Copy)]
 struct Answered {
     turn: Turn,
     answer: Answer,
 }
 
 // What a packet holds for a receiver: so many messages, or a piece; it may be for another one, or no packet.
-#[derive(Drop)]
+#[derive(Clone, Copy)]
 enum Contents {
     Messages(usize),
     Piece(Slice),

@@ -1,3 +1,4 @@
+#![tactic(auto)]
 // Calls on one reassembly.
 ghost use Rattle.std.specs.Prelude.{◌≡◌, get_or};
 ghost use Rattle.slice_constructor.specs.Collect.{Valid};
@@ -13,14 +14,14 @@ use slice_constructor::{Begin, Collect, SliceConstructor};
 use words::{MessageId, SliceIndex};
 
 // The reassembly, and how many bytes of its lane are lent.
-#[derive(Drop)]
+#[derive(Clone, Copy)]
 pub struct End {
     pub state: SliceConstructor,
     pub lane: usize,
 }
 
 // The reassembly after a call, and the place after the answer.
-#[derive(Drop)]
+#[derive(Clone, Copy)]
 pub struct Told {
     pub end: End,
     pub at: usize,

@@ -1,3 +1,4 @@
+#![tactic(auto)]
 // Calls on the two senders. A call answers a value, and the page comes in where that is said.
 ghost use Rattle.std.specs.Prelude.{◌≡◌, ◌≤◌, length};
 ghost use Rattle.arguments.specs.Arguments.{leaves, taken_apart_of};
@@ -19,7 +20,7 @@ use words::{MessageId, Refusal, Sequence, SliceIndex};
 const RESEND_TIME: u64 = 300_000_000;
 
 // How much of its own memory a sender is lent, and how many packets of its last round stand there.
-#[derive(Drop)]
+#[derive(Clone, Copy)]
 pub struct Lent {
     small: usize,
     lanes: usize,
@@ -29,7 +30,7 @@ pub struct Lent {
 }
 
 // The reliable sender, the unreliable one, and what each is lent.
-#[derive(Drop)]
+#[derive(Clone, Copy)]
 pub struct Senders {
     sr: SendChannelReliable,
     su: SendChannelUnreliable,
@@ -38,14 +39,14 @@ pub struct Senders {
 }
 
 // The senders after a call, and the place after its answer.
-#[derive(Drop)]
+#[derive(Clone, Copy)]
 pub struct Told {
     pub senders: Senders,
     pub at: usize,
 }
 
 // What a call answers.
-#[derive(Drop)]
+#[derive(Clone, Copy)]
 enum Said {
     Ready,
     Id(u64),
@@ -63,7 +64,7 @@ enum Said {
 }
 
 // The senders after a call, and what it answers.
-#[derive(Drop)]
+#[derive(Clone, Copy)]
 struct Done {
     senders: Senders,
     said: Said,
@@ -192,7 +193,7 @@ fn seen(s: Senders, reliable: bool, k: usize) -> Lent
 }
 
 // Parts of the memory of all ends.
-#[derive(Drop)]
+#[derive(Clone, Copy)]
 struct Parts {
     small: Span,
     lanes: Span,

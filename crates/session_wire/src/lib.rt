@@ -1,3 +1,4 @@
+#![tactic(auto)]
 // Calls on the wire: packets, and the varints and counts that they are made of.
 ghost use Rattle.std.specs.Prelude.{◌≡◌, length};
 ghost use Rattle.script.specs.Ascii.{ascii};
@@ -20,7 +21,7 @@ use packet_small::Small;
 use words::{MessageId, Refusal, Sequence, SliceIndex};
 
 // How many words of the tables and how many bytes are lent.
-#[derive(Drop)]
+#[derive(Clone, Copy)]
 pub struct Lent {
     pub messages: usize,
     pub ranges: usize,
@@ -28,7 +29,7 @@ pub struct Lent {
 }
 
 // What is lent after a call, and the place after the answer.
-#[derive(Drop)]
+#[derive(Clone, Copy)]
 pub struct Told {
     pub lent: Lent,
     pub at: usize,

@@ -1,3 +1,4 @@
+#![tactic(auto)]
 // One reassembly: which pieces of a message are here, where each goes in the lane that is lent for
 // it, and when the message is whole. Pieces come in any order, and may repeat.
 ghost use Rattle.std.specs.Prelude.{◌≡◌, ◌<◌, length};
@@ -7,7 +8,7 @@ ghost use Rattle.slice_constructor.specs.Steps.{judged_number};
 use words::{LIMIT, MessageId, PIECES, Refusal, SLICE_SIZE, SliceIndex};
 
 // One reassembly. A blank one has no piece to come.
-#[derive(Drop)]
+#[derive(Clone, Copy)]
 pub struct SliceConstructor {
     message_id: MessageId,
     num_slices: usize,
@@ -17,27 +18,27 @@ pub struct SliceConstructor {
 }
 
 // Whether a reassembly was begun.
-#[derive(Drop)]
+#[derive(Clone, Copy)]
 pub enum Begin {
     Ready,
     Refused(Refusal),
 }
 
-#[derive(Drop)]
+#[derive(Clone, Copy)]
 pub struct Begun {
     pub answer: Begin,
     pub state: SliceConstructor,
 }
 
 // What came of a piece: more are to come, or the message is whole and so long.
-#[derive(Drop)]
+#[derive(Clone, Copy)]
 pub enum Collect {
     More,
     Whole(usize),
     Refused(Refusal),
 }
 
-#[derive(Drop)]
+#[derive(Clone, Copy)]
 pub struct Collected {
     pub answer: Collect,
     pub state: SliceConstructor,
@@ -45,7 +46,7 @@ pub struct Collected {
 
 // What a lane keeps of a message: whether it is whole, how long it then is or what it is charged
 // before, and what puts it together, which is blank once it is whole.
-#[derive(Drop)]
+#[derive(Clone, Copy)]
 pub struct Kept {
     pub whole: bool,
     pub len: usize,
@@ -53,7 +54,7 @@ pub struct Kept {
 }
 
 // Whether a piece may be taken.
-#[derive(Drop)]
+#[derive(Clone, Copy)]
 enum Judged {
     Good,
     Refused(Refusal),

@@ -1,3 +1,4 @@
+#![tactic(auto)]
 // A tour of the library: a long message and a short one cross a line that loses a packet.
 //
 // Both ends stand in this one program, so that it reads from top to bottom; between two machines the
@@ -53,7 +54,7 @@ const MESSAGE: usize = 3;
 const MESSAGE_TABLE: usize = MESSAGE * MESSAGES;
 
 // Both ends.
-#[derive(Drop)]
+#[derive(Clone, Copy)]
 struct Ends {
     sender: SendChannelReliable,
     receiver: ReceiveChannelReliable,
@@ -61,7 +62,7 @@ struct Ends {
 
 // Both ends after a round, and what it wrote. That tells the number of the next packet, which the caller
 // keeps, since channels share the numbers.
-#[derive(Drop)]
+#[derive(Clone, Copy)]
 struct Rounded {
     ends: Ends,
     written: Written,

@@ -1,3 +1,4 @@
+#![tactic(auto)]
 // The words that every crate of the transport shares: sizes by name, the kinds of numbers, the
 // refusals, and two walks over lent memory.
 ghost use Rattle.std.specs.Prelude.{◌≡◌, ◌+◌, ◌≤◌, length};
@@ -29,19 +30,19 @@ pub const MAX_MESSAGES: usize = 65_535;
 pub const LIMIT: u64 = 1 << 62;
 
 // The number of a packet.
-#[derive(Drop)]
+#[derive(Clone, Copy)]
 pub struct Sequence(pub u64);
 
 // The number of a message.
-#[derive(Drop)]
+#[derive(Clone, Copy)]
 pub struct MessageId(pub u64);
 
 // The place of a piece in its message.
-#[derive(Drop)]
+#[derive(Clone, Copy)]
 pub struct SliceIndex(pub u64);
 
 // Why a call did nothing. The names of 1 to 8 are renet's.
-#[derive(Drop)]
+#[derive(Clone, Copy)]
 pub enum Refusal {
     BufferTooShort,
     InvalidNumSlices,

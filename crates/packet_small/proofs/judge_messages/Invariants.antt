@@ -1,0 +1,18 @@
+-- `packet_small::judge_messages` meets its contract. The loop's invariant: what is left, judged from here, comes to what the whole comes to.
+-- Assumes nothing.
+use borrow.Author.Rules.{rules}
+use native.Mathlib.Omega.{arith}
+use Prim.Native.Nat.{◌-◌, ◌≤◌}
+use native.Mathlib.Nat.{sub-zero}
+use mathlib.Core.Path.{◌≡◌, refl}
+use Rattle.words.specs.Lists.{reached}
+use Rattle.packet_small.specs.Write.{listed}
+use Rattle.packet_small.specs.Steps.{judgement}
+use Rattle.packet_small.proofs.Judge.{judged-none, judged-more}
+use Rattle.packet_small.proofs.judge_messages.Given as goal
+
+abbrev pub invariant-loop-i : goal.invariant-loop-i
+invariant-loop-i l = (l.i ≤ l.count) × (reached (judgement l.ids l.m) l.j (listed l.table l.i (l.count - l.i)) ≡ reached (judgement l.ids l.m) l.initial.j (listed l.table 0 l.count))
+
+abbrev pub decreases-loop-i : goal.decreases-loop-i
+decreases-loop-i l = l.count - l.i

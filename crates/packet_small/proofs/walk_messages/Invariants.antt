@@ -1,0 +1,14 @@
+-- `packet_small::walk_messages` meets its contract. The loop's invariant: what is left to walk ends as the whole does. Assumes nothing.
+use borrow.Author.Rules.{rules}
+use native.Mathlib.Omega.{arith}
+use mathlib.Core.Path.{◌≡◌, refl}
+use Rattle.packet_small.specs.Small.{messages}
+use Rattle.packet_small.specs.Steps.{walk_of}
+use Rattle.packet_small.proofs.Read.{message-fits, walk-lost, walk_more, walk_none}
+use Rattle.packet_small.proofs.walk_messages.Given as goal
+
+abbrev pub invariant-loop-left : goal.invariant-loop-left
+invariant-loop-left l = walk_of (messages l.ids l.left l.s l.at) ≡ walk_of (messages l.ids l.n l.s l.from)
+
+abbrev pub decreases-loop-left : goal.decreases-loop-left
+decreases-loop-left l = l.left

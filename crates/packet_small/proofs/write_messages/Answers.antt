@@ -1,0 +1,51 @@
+-- `packet_small::write_messages` meets its contract. The loop's invariant: what is left, written from here, makes the buffer that the whole makes.
+-- Assumes nothing.
+use native.Mathlib.Omega.{arith}
+use Prim.Native.Nat.{◌+◌, ◌-◌, ◌≤◌}
+use native.Mathlib.Nat.{sub-zero}
+use mathlib.Core.Path.{◌≡◌, refl}
+use mathlib.Core.Bool.{true}
+use mathlib.Core.List.{map}
+use lib.ListN.{length}
+use Rattle.words.specs.Lists.{splice, all, total}
+use Rattle.packet_small.specs.Write.{listed, stored, sayable, said_of, messages_bytes}
+use Rattle.packet_small.specs.Steps.{size}
+use Rattle.packet_small.proofs.Wrote.{Turn, turn, turn-wrote, wrote_none, sizes-none}
+use Rattle.packet_small.proofs.write_messages.Goals as goal
+use Rattle.packet_small.proofs.write_messages.Goals.{After-loop-i, In-loop-i}
+
+-- what is known of the message of a turn
+known : (c : In-loop-i) → let a = c.args in Turn a.ids a.store.now a.table.now a.count c.loop-i.i
+known c = search turn
+
+none_left : (c : After-loop-i) → let a = c.args in total (size a.ids) (listed a.table.now c.loop-i.i (a.count - c.loop-i.i)) ≡ 0
+none_left c = search sizes-none
+
+pub loop-i-init : goal.loop-i-init
+loop-i-init c =
+    let p = c.requires in
+    (omega arith, refl, rw sub-zero p.1.0, rw sub-zero p.1.1.0, rw sub-zero refl, rw sub-zero refl)
+
+pub overflow_add-end-in-loop-i : goal.overflow_add-end-in-loop-i
+overflow_add-end-in-loop-i c = let k = known (goal.at.overflow_add-end-in-loop-i c).In-loop-i in omega arith
+
+pub slice_bounds-write_message-count : goal.slice_bounds-write_message-count
+slice_bounds-write_message-count c = let k = known (goal.at.slice_bounds-write_message-count c).In-loop-i in omega arith
+
+-- LEFT slice-bounds-write-message-start
+-- let k = known (goal.at.None c).In-loop-i in omega arith
+
+-- LEFT slice-bounds-write-message-end
+-- let k = known (goal.at.None c).In-loop-i in omega arith
+
+pub write_message-at-requires : goal.write_message-at-requires
+write_message-at-requires c = let k = known (goal.at.write_message-at-requires c).In-loop-i in (k.id, (omega arith, omega arith))
+
+pub loop-i-preserved : goal.loop-i-preserved
+loop-i-preserved c =
+    let w = c.write_message-at.ensures in
+    let k = known (goal.at.loop-i-preserved c).In-loop-i in
+    (omega arith, omega arith, k.all-stored, k.all-sayable, omega arith, turn-wrote _ _ _ _ _ _ _ c.loop-i-test.true w.1 w.0 c.loop-i.invariant.5)
+
+pub returns : goal.returns
+returns c = let z = none_left (goal.at.returns c).After-loop-i in (omega arith, search wrote_none)

@@ -1,0 +1,22 @@
+-- `SliceConstructor::judge` meets its contract: each answer by the tests that led to it. Assumes nothing.
+use mathlib.Core.Path.{sym, ◌∙◌}
+use borrow.Author.Rules.{rules}
+use borrow.Author.Tests.{lt-ltb, le-ltb, le-leb, lt-leb}
+use Rattle.slice_constructor.specs.Collect.{collect_refusal}
+use Rattle.slice_constructor.proofs.SliceConstructor.judge.Goals as goal
+
+pub returns-then-room-self : goal.returns-then-room-self
+unfolding collect_refusal
+returns-then-room-self c = simp (lt-ltb _ _ c.if-room-self.true)
+
+pub returns-then-self-i : goal.returns-then-self-i
+unfolding collect_refusal
+returns-then-self-i c = simp (le-ltb _ _ c.if-room-self.false, le-leb _ _ c.if-self-i.true)
+
+pub returns-then-is_sized : goal.returns-then-is_sized
+unfolding collect_refusal
+returns-then-is_sized c = simp (le-ltb _ _ c.if-room-self.false, lt-leb _ _ c.if-self-i.false, sym c.is_sized.ensures ∙ c.if-is_sized.true)
+
+pub returns-else-is_sized : goal.returns-else-is_sized
+unfolding collect_refusal
+returns-else-is_sized c = simp (le-ltb _ _ c.if-room-self.false, lt-leb _ _ c.if-self-i.false, sym c.is_sized.ensures ∙ c.if-is_sized.false)

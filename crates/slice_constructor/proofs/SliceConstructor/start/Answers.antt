@@ -1,0 +1,6 @@
+-- `SliceConstructor::start` meets its contract. Assumes nothing.
+use borrow.Author.Rules.{rules}
+use Rattle.slice_constructor.proofs.SliceConstructor.start.Goals as goal
+
+pub returns-then-fresh : goal.returns-then-fresh
+returns-then-fresh c = rw c.if-fresh.true c.empty.ensures
