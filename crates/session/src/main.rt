@@ -6,11 +6,13 @@ ghost use Rattle.session.specs.Sound.{Sound};
 use answers::Call;
 use arguments::Read;
 use ends::{Ends, Told, Which};
-use libc::STDIN_FILENO;
 use lines::{Line, Lines};
 use script::Word;
 
 mod ends;
+
+// The standard input.
+const STDIN: i32 = 0;
 
 fn main() {
     let mut input = [0; memory::INPUT];
@@ -212,7 +214,7 @@ fn next(
     match found {
         Line::End => over(s, page),
         Line::Unread => {
-            s.lines = lines.refill(STDIN_FILENO, input);
+            s.lines = lines.refill(STDIN, input);
             nothing(s)
         }
         Line::TooLong => too_long(counted(s), page),

@@ -10,7 +10,6 @@ ghost use Rattle.receive_reliable.specs.Receive as r;
 ghost use Rattle.tour.specs.Tour.{Ready, Queues, MessageArrives, PieceArrives};
 
 use channel::Settings;
-use libc::STDOUT_FILENO;
 use pack::{Budget, Went, Written};
 use packet::{Decoded, Packet};
 use packet_ack::{RANGES, Range};
@@ -52,6 +51,9 @@ const MESSAGES: usize = 8;
 const MESSAGE: usize = 3;
 
 const MESSAGE_TABLE: usize = MESSAGE * MESSAGES;
+
+// The standard output.
+const STDOUT: i32 = 1;
 
 // Both ends.
 #[derive(Clone, Copy)]
@@ -402,12 +404,12 @@ fn part(bytes: &[u8], place: usize, len: usize) -> &[u8] {
 }
 
 fn text(s: &[u8]) {
-    io::write_all(STDOUT_FILENO, s);
+    io::write_all(STDOUT, s);
 }
 
 fn say(s: &[u8], n: u64) {
     text(s);
-    io::print_decimal(STDOUT_FILENO, n);
+    io::print_decimal(STDOUT, n);
 }
 
 fn say_message(s: &[u8], id: MessageId, message: &[u8]) {
