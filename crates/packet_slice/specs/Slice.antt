@@ -2,10 +2,10 @@
 --   2 ReliableSlice    v seq, channel byte, v id, v slice index, v num_slices, v length, bytes
 --   3 UnreliableSlice  as 2
 -- `reliable` tells the two apart. Assumes nothing.
-use Rattle.std.specs.Prelude.{ℕ, ◌+◌, Bool, true, false, leb}
+use Rattle.std.specs.Prelude.{ℕ, Bool, true, false, leb}
 use Rattle.words.specs.Sizes.{SLICE_SIZE, MAX_NUM_SLICES}
 use Rattle.words.specs.Refusal.{number_of}
-use Rattle.octets.specs.Reader.{Res, ok, fault, then, Reader, ◌>>=◌, ◌>>◌, give, need, byte}
+use Rattle.octets.specs.Reader.{Res, ok, fault, Reader, ◌>>=◌, ◌>>◌, give, need, byte}
 use Rattle.octets.specs.Varint.{var, run}
 use Rattle.packet_slice.specs.declared.Slice as code
 use Rattle.packet_slice.specs.declared.SliceRead.{SliceRead}

@@ -1,5 +1,4 @@
 -- `packet_slice::get_front` meets its contract. Assumes nothing.
-use borrow.Author.Rules.{rules}
 use Rattle.packet_slice.proofs.Read.{no-sequence, no-channel, front-there}
 use Rattle.packet_slice.proofs.get_front.Goals as goal
 

@@ -1,5 +1,4 @@
 -- `packet_slice::get_label` meets its contract. Assumes nothing.
-use borrow.Author.Rules.{rules}
 use Rattle.packet_slice.proofs.Read.{no-id, no_index, no-count, label-there}
 use Rattle.packet_slice.proofs.get_label.Goals as goal
 

@@ -1,6 +1,5 @@
 -- `packet_slice::put_slice` meets its contract: the tests that led to each `return` say which case of `put_slice_of` holds.
 -- Assumes nothing.
-use borrow.Author.Rules.{rules}
 use native.Mathlib.Omega.{arith}
 use mathlib.Core.Path.{◌≡◌, refl, sym, ◌∙◌}
 use mathlib.Core.Bool.{false}

@@ -1,9 +1,8 @@
 -- `packet_slice::read_slice` meets its contract: what was read says which case of `slice` holds. Assumes nothing.
 use native.Mathlib.Omega.{arith}
-use mathlib.Core.Logic.{⊎_elim}
-use borrow.Author.Rules.{rules}
 use Rattle.packet_slice.proofs.Read.{no_front, no_label, count-zero, count-above, no_payload, payload-end, payload-empty, payload-above, payload-there, judged, unjudged}
 use Rattle.packet_slice.proofs.read_slice.Goals as goal
+use Rattle.packet_slice.proofs.read_slice.Goals.{then-reliable+else-len-lt1+else-len-gt-SLICE_SIZE, else-reliable}
 
 pub returns-in_default : goal.returns-in_default
 returns-in_default c = search no_front
@@ -33,4 +32,7 @@ pub returns : goal.returns
 returns c =
     payload-there _ _ _ c.get_front.ensures c.in-Read.is c.get_label.ensures c.in-Read-get_label.is
     c.if-num_slices-lt1.false c.if-num_slices-gt-MAX_NUM_SLICES.false c.get_bytes_with_varint_length.ensures c.in-At.is
-    (⊎_elim (λ w. judged _ _ w.0.taken w.1.left w.2.left) (λ w. unjudged _ _ w.left) c.if-reliable.branch)
+    (elim c.if-reliable.branch [
+      | then-reliable+else-len-lt1+else-len-gt-SLICE_SIZE w ↦ judged _ _ w.if-reliable.true w.if-len-lt1.false w.if-len-gt-SLICE_SIZE.false
+      | else-reliable w ↦ unjudged _ _ w.if-reliable.false
+    ])

@@ -1,5 +1,4 @@
 -- `packet_slice::write_label` meets its contract. Assumes nothing.
-use borrow.Author.Rules.{rules}
 use native.Mathlib.Omega.{arith}
 use Rattle.packet_slice.proofs.Wrote.{wrote-label}
 use Rattle.packet_slice.proofs.write_label.Goals as goal

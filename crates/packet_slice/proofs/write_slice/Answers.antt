@@ -1,5 +1,4 @@
 -- `packet_slice::write_slice` meets its contract. Assumes nothing.
-use borrow.Author.Rules.{rules}
 use native.Mathlib.Omega.{arith}
 use mathlib.Core.Path.{ap}
 use Rattle.octets.specs.Varint.{var_len}
@@ -10,18 +9,18 @@ use Rattle.packet_slice.proofs.write_slice.Goals as goal
 
 pub write_front-a-requires : goal.write_front-a-requires
 unfolding slice_len_of
-write_front-a-requires c = (omega arith, omega arith)
+write_front-a-requires c = record { sequence_bound = omega arith; sequence_in_bounds = omega arith }
 
 pub write_label-b-requires : goal.write_label-b-requires
 unfolding slice_len_of
-write_label-b-requires c = (omega arith, (omega arith, (omega arith, omega arith)))
+write_label-b-requires c = record { id_bound = omega arith; index_bound = omega arith; num_slices_bound = omega arith; num_slices_in_bounds = omega arith }
 
 pub write_bytes_with_varint_length-requires : goal.write_bytes_with_varint_length-requires
 unfolding slice_len_of
 write_bytes_with_varint_length-requires c =
     let p = c.args.packet in
     let l = length-span p.place p.len c.args.store.now c.requires.stored in
-    (omega arith, rw l (omega arith))
+    record { src_len_bound = omega (arith, l); src_in_bounds = rw l (omega arith) }
 
 pub returns : goal.returns
 unfolding slice_len_of
