@@ -87,12 +87,16 @@ says-messages h (one_more {a = a} {b = b} u v) =
     let l = says-messages (here_back a b h) v in (layout.one_more (says-message (here-front a b h) u) l.0, ap suc l.1)
 
 pub says-small : {ids : Bool} {s : List ℕ} {at : ℕ} {p : Small} {bs : List ℕ} → Here s at bs → SmallAt ids at p bs → SmallSpelt ids (small_said s p) (type_byte_of ids ∷ bs)
-says-small {ids} {s} h (both {xs = a} v (both (one_byte {b} c) (both (two_bytes {k} n) (made {a = ms} {bs = d} r)))) =
-    let here = here_back (pair_bytes k) d (here_back (b ∷ []) (pair_bytes k ++ d) (here_back a (b ∷ (pair_bytes k ++ d)) h)) in
-    let l = says-messages here r in
-    let e : k ≡ length (map (content_of s) ms) = sym l.1 in
-    let n' : length (map (content_of s) ms) ≤ MAX_MESSAGES = rw l.1 n in
-    rw e (layout.packet v c n' l.0)
+says-small {ids} {s} {at} h (both v (both c (both n (made r)))) = of v c n r h
+  where
+    of : {seq channel k : ℕ} {a x y d : List ℕ} {ms : List Message} → Varint seq a → ByteSpelt channel x → PairSpelt k y → MessagesAt ids k (at + length a + length x + length y) ms d → Here s at (a ++ (x ++ (y ++ d)))
+        → SmallSpelt ids (small_said s (record { sequence = seq; channel = channel; messages = ms })) (type_byte_of ids ∷ (a ++ (x ++ (y ++ d))))
+    of {a = a} {d = d} {ms = ms} v (one_byte {b} c) (two_bytes {k} n) r h =
+        let here = here_back (pair_bytes k) d (here_back (b ∷ []) (pair_bytes k ++ d) (here_back a (b ∷ (pair_bytes k ++ d)) h)) in
+        let l = says-messages here r in
+        let e : k ≡ length (map (content_of s) ms) = sym l.1 in
+        let n' : length (map (content_of s) ms) ≤ MAX_MESSAGES = rw l.1 n in
+        rw e (layout.packet v c n' l.0)
 
 -- ---- and what is spelt stands at any place as a value that says it
 

@@ -6,7 +6,7 @@ use Rattle.std.specs.Prelude.{ℕ, zero, suc, ◌+◌, ◌*◌, Bool, true, fals
 use Rattle.words.specs.Choice.{pick}
 use Rattle.words.specs.Lists.{splice}
 use Rattle.words.specs.Refusal.{number_of}
-use Rattle.octets.specs.Reader.{Res, ok, fault, then, Reader, ◌>>=◌, give, byte, pair}
+use Rattle.octets.specs.Reader.{Res, ok, fault, Reader, ◌>>=◌, give, byte, pair}
 use Rattle.octets.specs.Varint.{var, run}
 use Rattle.packet_small.specs.declared.Item.{Item}
 use Rattle.packet_small.specs.declared.Item.TheVariants as item

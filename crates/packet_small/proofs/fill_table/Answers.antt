@@ -1,20 +1,15 @@
 -- `packet_small::fill_table` meets its contract. The loop's invariant: what is left fills the rest of the table as the whole fills all of it.
 -- Assumes nothing.
-use borrow.Author.Rules.{rules}
 use native.Mathlib.Omega.{arith}
-use Prim.Native.Nat.{◌*◌, ◌-◌, ◌≤◌}
 use native.Mathlib.Nat.{sub-zero}
-use mathlib.Core.Path.{◌≡◌, refl}
-use lib.ListN.{length, length-set}
-use Rattle.octets.specs.Reader.{Good}
-use Rattle.packet_small.specs.Small.{messages, RECORD}
-use Rattle.packet_small.specs.Steps.{filled}
+use mathlib.Core.Path.{refl}
+use lib.ListN.{length-set}
 use Rattle.packet_small.proofs.Read.{message-fits}
 use Rattle.packet_small.proofs.Fill.{fill_none, fill-cut, fill-good, fill_more}
 use Rattle.packet_small.proofs.fill_table.Goals as goal
 
 pub loop-i-init : goal.loop-i-init
-loop-i-init c = (omega arith, refl, rw sub-zero c.requires.0, rw sub-zero refl)
+loop-i-init c = (omega arith, refl, rw sub-zero c.requires.good, rw sub-zero refl)
 
 pub returns-in_default : goal.returns-in_default
 returns-in_default c = absurd (search fill-cut)

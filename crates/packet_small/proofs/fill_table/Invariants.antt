@@ -1,16 +1,11 @@
 -- `packet_small::fill_table` meets its contract. The loop's invariant: what is left fills the rest of the table as the whole fills all of it.
 -- Assumes nothing.
-use borrow.Author.Rules.{rules}
-use native.Mathlib.Omega.{arith}
 use Prim.Native.Nat.{◌*◌, ◌-◌, ◌≤◌}
-use native.Mathlib.Nat.{sub-zero}
-use mathlib.Core.Path.{◌≡◌, refl}
-use lib.ListN.{length, length-set}
+use mathlib.Core.Path.{◌≡◌}
+use lib.ListN.{length}
 use Rattle.octets.specs.Reader.{Good}
 use Rattle.packet_small.specs.Small.{messages, RECORD}
 use Rattle.packet_small.specs.Steps.{filled}
-use Rattle.packet_small.proofs.Read.{message-fits}
-use Rattle.packet_small.proofs.Fill.{fill_none, fill-cut, fill-good, fill_more}
 use Rattle.packet_small.proofs.fill_table.Given as goal
 
 abbrev pub invariant-loop-i : goal.invariant-loop-i

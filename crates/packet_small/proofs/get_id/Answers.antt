@@ -1,6 +1,5 @@
 -- `packet_small::get_id` meets its contract. Assumes nothing.
 use mathlib.Core.Path.{refl}
-use borrow.Author.Rules.{rules}
 use Rattle.packet_small.proofs.get_id.Goals as goal
 
 pub returns-then-ids : goal.returns-then-ids

@@ -1,6 +1,5 @@
 -- `packet_small::get_message` meets its contract: what was read says which case of `message` holds. Assumes nothing.
 use Rattle.packet_small.proofs.Read.{cut-id, cut-run, found}
-use borrow.Author.Rules.{rules}
 use Rattle.packet_small.proofs.get_message.Goals as goal
 
 pub returns-in_default : goal.returns-in_default

@@ -1,5 +1,4 @@
 -- `packet_small::id_len` meets its contract. Assumes nothing.
-use borrow.Author.Rules.{rules}
 use Rattle.packet_small.proofs.id_len.Goals as goal
 
 pub returns-then-ids : goal.returns-then-ids

@@ -1,6 +1,5 @@
 -- `packet_small::judge_head` meets its contract. Assumes nothing.
 use Rattle.packet_small.proofs.Judge.{judged-first}
-use borrow.Author.Rules.{rules}
 use Rattle.packet_small.proofs.judge_head.Goals as goal
 
 pub returns : goal.returns

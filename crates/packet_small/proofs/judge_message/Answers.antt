@@ -1,6 +1,5 @@
 -- `packet_small::judge_message` meets its contract. Assumes nothing.
 use Rattle.packet_small.proofs.Judge.{judged-one}
-use borrow.Author.Rules.{rules}
 use Rattle.packet_small.proofs.judge_message.Goals as goal
 
 pub returns : goal.returns

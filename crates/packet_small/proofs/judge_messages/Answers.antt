@@ -1,13 +1,8 @@
 -- `packet_small::judge_messages` meets its contract. The loop's invariant: what is left, judged from here, comes to what the whole comes to.
 -- Assumes nothing.
-use borrow.Author.Rules.{rules}
 use native.Mathlib.Omega.{arith}
-use Prim.Native.Nat.{◌-◌, ◌≤◌}
 use native.Mathlib.Nat.{sub-zero}
-use mathlib.Core.Path.{◌≡◌, refl}
-use Rattle.words.specs.Lists.{reached}
-use Rattle.packet_small.specs.Write.{listed}
-use Rattle.packet_small.specs.Steps.{judgement}
+use mathlib.Core.Path.{refl}
 use Rattle.packet_small.proofs.Judge.{judged-none, judged-more}
 use Rattle.packet_small.proofs.judge_messages.Goals as goal
 

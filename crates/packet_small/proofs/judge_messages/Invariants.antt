@@ -1,14 +1,10 @@
 -- `packet_small::judge_messages` meets its contract. The loop's invariant: what is left, judged from here, comes to what the whole comes to.
 -- Assumes nothing.
-use borrow.Author.Rules.{rules}
-use native.Mathlib.Omega.{arith}
 use Prim.Native.Nat.{◌-◌, ◌≤◌}
-use native.Mathlib.Nat.{sub-zero}
-use mathlib.Core.Path.{◌≡◌, refl}
+use mathlib.Core.Path.{◌≡◌}
 use Rattle.words.specs.Lists.{reached}
 use Rattle.packet_small.specs.Write.{listed}
 use Rattle.packet_small.specs.Steps.{judgement}
-use Rattle.packet_small.proofs.Judge.{judged-none, judged-more}
 use Rattle.packet_small.proofs.judge_messages.Given as goal
 
 abbrev pub invariant-loop-i : goal.invariant-loop-i

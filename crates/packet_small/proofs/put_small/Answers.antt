@@ -3,7 +3,6 @@ use native.Mathlib.Omega.{arith}
 use mathlib.Core.Path.{refl}
 use lib.ListN.{length}
 use Rattle.packet_small.proofs.Encode.{Accepted, bad-table, bad-store, bad-sequence, bad-number, too_long, no_room, accepted, in-room, packet-wrote}
-use borrow.Author.Rules.{rules}
 use Rattle.packet_small.proofs.put_small.Goals as goal
 use Rattle.packet_small.proofs.put_small.Goals.{Else-not-fits}
 
@@ -30,10 +29,10 @@ pub returns-then-not-fits : goal.returns-then-not-fits
 returns-then-not-fits c = (search no_room, refl)
 
 pub write_head-a-requires : goal.write_head-a-requires
-write_head-a-requires c = let k = judged (goal.at.write_head-a-requires c).Else-not-fits in (k.sequence, (k.count, omega arith))
+write_head-a-requires c = let k = judged (goal.at.write_head-a-requires c).Else-not-fits in record { sequence_bound = k.sequence; count_bound = k.count; sequence_in_bounds = omega arith }
 
 pub write_messages-requires : goal.write_messages-requires
-write_messages-requires c = let k = judged (goal.at.write_messages-requires c).Else-not-fits in (k.table, (k.all-stored, (k.all-sayable, omega arith)))
+write_messages-requires c = let k = judged (goal.at.write_messages-requires c).Else-not-fits in record { count_in_bounds = k.table; count_value = k.all-stored; count_value_2 = k.all-sayable; count_in_bounds_2 = omega arith }
 
 pub returns : goal.returns
 returns c =

@@ -1,7 +1,6 @@
 -- `packet_small::read_small` meets its contract: what was read says which case of `small` holds. Assumes nothing.
 use native.Mathlib.Omega.{arith}
 use Rattle.packet_small.proofs.Decode.{refused, no-seq, no-channel, no-count, no-message, walked-good, full-told, full-tabled, filled-told, filled-tabled}
-use borrow.Author.Rules.{rules}
 use Rattle.packet_small.proofs.read_small.Goals as goal
 
 pub returns-in_default : goal.returns-in_default
@@ -20,7 +19,7 @@ pub returns-then-table-count : goal.returns-then-table-count
 returns-then-table-count c = (search full-told, search full-tabled)
 
 pub fill_table-requires : goal.fill_table-requires
-fill_table-requires c = (walked-good _ _ _ c.get_varint.ensures c.in-Value.is c.if-s-a.false c.get_u16.ensures c.in-Value-get_u16.is c.walk_messages.ensures c.in-Until.is, omega arith)
+fill_table-requires c = record { good = walked-good _ _ _ c.get_varint.ensures c.in-Value.is c.if-s-a.false c.get_u16.ensures c.in-Value-get_u16.is c.walk_messages.ensures c.in-Until.is; n_in_bounds = omega arith }
 
 pub returns : goal.returns
 returns c = (search filled-told, search filled-tabled)

@@ -1,9 +1,4 @@
 -- `packet_small::walk_messages` meets its contract. The loop's invariant: what is left to walk ends as the whole does. Assumes nothing.
-use borrow.Author.Rules.{rules}
-use native.Mathlib.Omega.{arith}
-use mathlib.Core.Path.{◌≡◌, refl}
-use Rattle.packet_small.specs.Small.{messages}
-use Rattle.packet_small.specs.Steps.{walk_of}
 use Rattle.packet_small.proofs.Read.{message-fits, walk-lost, walk_more, walk_none}
 use Rattle.packet_small.proofs.walk_messages.Goals as goal
 

@@ -1,14 +1,11 @@
 -- `packet_small::write_messages` meets its contract. The loop's invariant: what is left, written from here, makes the buffer that the whole makes.
 -- Assumes nothing.
 use native.Mathlib.Omega.{arith}
-use Prim.Native.Nat.{◌+◌, ◌-◌, ◌≤◌}
+use Prim.Native.Nat.{◌-◌}
 use native.Mathlib.Nat.{sub-zero}
 use mathlib.Core.Path.{◌≡◌, refl}
-use mathlib.Core.Bool.{true}
-use mathlib.Core.List.{map}
-use lib.ListN.{length}
-use Rattle.words.specs.Lists.{splice, all, total}
-use Rattle.packet_small.specs.Write.{listed, stored, sayable, said_of, messages_bytes}
+use Rattle.words.specs.Lists.{total}
+use Rattle.packet_small.specs.Write.{listed}
 use Rattle.packet_small.specs.Steps.{size}
 use Rattle.packet_small.proofs.Wrote.{Turn, turn, turn-wrote, wrote_none, sizes-none}
 use Rattle.packet_small.proofs.write_messages.Goals as goal
@@ -24,7 +21,7 @@ none_left c = search sizes-none
 pub loop-i-init : goal.loop-i-init
 loop-i-init c =
     let p = c.requires in
-    (omega arith, refl, rw sub-zero p.1.0, rw sub-zero p.1.1.0, rw sub-zero refl, rw sub-zero refl)
+    (omega arith, refl, rw sub-zero p.count_value, rw sub-zero p.count_value_2, rw sub-zero refl, rw sub-zero refl)
 
 pub overflow_add-end-in-loop-i : goal.overflow_add-end-in-loop-i
 overflow_add-end-in-loop-i c = let k = known (goal.at.overflow_add-end-in-loop-i c).In-loop-i in omega arith
@@ -32,14 +29,11 @@ overflow_add-end-in-loop-i c = let k = known (goal.at.overflow_add-end-in-loop-i
 pub slice_bounds-write_message-count : goal.slice_bounds-write_message-count
 slice_bounds-write_message-count c = let k = known (goal.at.slice_bounds-write_message-count c).In-loop-i in omega arith
 
--- LEFT slice-bounds-write-message-start
--- let k = known (goal.at.None c).In-loop-i in omega arith
-
--- LEFT slice-bounds-write-message-end
--- let k = known (goal.at.None c).In-loop-i in omega arith
+pub slice_bounds-write_message-end : goal.slice_bounds-write_message-end
+slice_bounds-write_message-end c = let k = known (goal.at.slice_bounds-write_message-end c).In-loop-i in omega arith
 
 pub write_message-at-requires : goal.write_message-at-requires
-write_message-at-requires c = let k = known (goal.at.write_message-at-requires c).In-loop-i in (k.id, (omega arith, omega arith))
+write_message-at-requires c = let k = known (goal.at.write_message-at-requires c).In-loop-i in record { id_bound = k.id; bytes_len_bound = omega arith; bytes_in_bounds = omega arith }
 
 pub loop-i-preserved : goal.loop-i-preserved
 loop-i-preserved c =

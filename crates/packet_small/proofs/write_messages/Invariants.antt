@@ -1,16 +1,13 @@
 -- `packet_small::write_messages` meets its contract. The loop's invariant: what is left, written from here, makes the buffer that the whole makes.
 -- Assumes nothing.
-use native.Mathlib.Omega.{arith}
 use Prim.Native.Nat.{◌+◌, ◌-◌, ◌≤◌}
-use native.Mathlib.Nat.{sub-zero}
-use mathlib.Core.Path.{◌≡◌, refl}
+use mathlib.Core.Path.{◌≡◌}
 use mathlib.Core.Bool.{true}
 use mathlib.Core.List.{map}
 use lib.ListN.{length}
 use Rattle.words.specs.Lists.{splice, all, total}
 use Rattle.packet_small.specs.Write.{listed, stored, sayable, said_of, messages_bytes}
 use Rattle.packet_small.specs.Steps.{size}
-use Rattle.packet_small.proofs.Wrote.{Turn, turn, turn-wrote, wrote_none, sizes-none}
 use Rattle.packet_small.proofs.write_messages.Given as goal
 
 abbrev pub invariant-loop-i : goal.invariant-loop-i
