@@ -1,13 +1,9 @@
 -- `channel::find` meets its contract. The loop's invariant: what is found from place i on is what is found in the whole.
 -- Assumes nothing.
-use Prim.Native.Nat.{◌+◌, ◌≤◌, ◌-◌}
-use mathlib.Core.Path.{◌≡◌}
-use mathlib.Core.Logic.{⊎_elim}
 use native.Mathlib.Omega.{arith}
-use lib.ListN.{length, drop}
-use Rattle.channel.specs.Find.{held_at}
 use Rattle.channel.proofs.Held.{at-end, at_here, past-free, past-other}
 use Rattle.channel.proofs.find.Goals as goal
+use Rattle.channel.proofs.find.Goals.{then-taken+else-ids-i, else-taken}
 
 pub loop-i-init : goal.loop-i-init
 loop-i-init c = (omega arith, c.requires, omega arith)
@@ -22,10 +18,10 @@ loop-i-preserved c =
     let l = c.loop-i in (
       omega arith,
       l.invariant.1,
-      ⊎_elim
-          (λ t. past-other _ _ _ _ l.invariant.2 l.invariant.1 c.loop-i-test.true t.0.taken t.2.left)
-          (λ t. past-free _ _ _ _ l.invariant.2 l.invariant.1 c.loop-i-test.true t.left)
-          c.if-taken.branch,
+      elim c.if-taken.branch [
+        | then-taken+else-ids-i w ↦ past-other _ _ _ _ l.invariant.2 l.invariant.1 c.loop-i-test.true w.if-taken.true w.if-ids-i.false
+        | else-taken w ↦ past-free _ _ _ _ l.invariant.2 l.invariant.1 c.loop-i-test.true w.if-taken.false
+      ],
     )
 
 pub returns : goal.returns

@@ -2,11 +2,8 @@
 -- Assumes nothing.
 use Prim.Native.Nat.{◌+◌, ◌≤◌, ◌-◌}
 use mathlib.Core.Path.{◌≡◌}
-use mathlib.Core.Logic.{⊎_elim}
-use native.Mathlib.Omega.{arith}
 use lib.ListN.{length, drop}
 use Rattle.channel.specs.Find.{held_at}
-use Rattle.channel.proofs.Held.{at-end, at_here, past-free, past-other}
 use Rattle.channel.proofs.find.Given as goal
 
 abbrev pub invariant-loop-i : goal.invariant-loop-i

@@ -1,6 +1,5 @@
 -- `part` meets its contract: the range is as long as the part. Assumes nothing.
 use Rattle.words.proofs.Tables.{part-size}
-use borrow.Author.Rules.{rules}
 use Rattle.channel.proofs.part.Goals as goal
 
 pub returns : goal.returns

@@ -2,7 +2,6 @@
 use mathlib.Core.Path.{sym, ap, ◌∙◌}
 use Rattle.channel.specs.Settings.{setup_number}
 use Rattle.channel.proofs.Good.{settled-ready, settled-refused}
-use borrow.Author.Rules.{rules}
 use Rattle.channel.proofs.Settings.settle.Goals as goal
 
 pub returns-in-Ready : goal.returns-in-Ready

@@ -1,6 +1,5 @@
 -- `Settings::stores_hold` meets its contract: no product wraps, and each answer is by its test. Assumes nothing.
 use native.Mathlib.Omega.{arith}
-use borrow.Author.Rules.{rules}
 use borrow.Author.Tests.{lt-ltb, le-ltb}
 use Rattle.channel.proofs.Good.{lanes-most}
 use Rattle.channel.proofs.Settings.stores_hold.Goals as goal
