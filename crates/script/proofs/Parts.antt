@@ -3,12 +3,9 @@ use Prim.Native.Nat.{ℕ, zero, suc, ◌+◌, ◌-◌, ◌/◌, ◌%◌, ◌^◌
 use mathlib.Core.Path.{◌≡◌, refl, ap, sym, ◌∙◌}
 use mathlib.Core.Bool.{Bool, true, false, not}
 use mathlib.Core.List.{List, [], ◌∷◌, map}
-use mathlib.Core.Logic.{⊎_elim}
 use native.Mathlib.Numerals.{add-one}
 use native.Mathlib.Omega.{arith}
 use borrow.Author.Tests.{ltb-true, ltb-false, lt-ltb, le-ltb, leb-true, le-leb, lt-leb, eq-eqb, ne_eqb, not-true, not-false}
-use denote.Enum.Declared.{tag_of}
-use types.Run.{OneOf}
 use lib.Dec.{eqb, ltb, leb, leb-suc-suc, lit<}
 use lib.ListN.{length, get_or, set, take, drop, length-drop, length-set, drop_of_length-le}
 use lib.Seq.{drop-cons, drop-drop, take_all, get_or-take, length-take-le}
@@ -22,7 +19,6 @@ use Rattle.script.specs.Bytes.{hex_of, hex, pair_of, pairs_of, then, stretch, Sp
 use Rattle.script.specs.declared.Number.TheVariants.{Value, NotANumber, TooLarge}
 use Rattle.script.specs.declared.Bytes.{Bytes}
 use Rattle.script.specs.declared.Bytes.TheVariants.{To, NotBytes, TooMany}
-use Rattle.script.specs.contracts.Bytes.{the_type}
 
 -- ---- hex digits
 
@@ -359,13 +355,13 @@ pub record Off (p : Spelt) (ps : List Spelt) (room at : ℕ) (out out' : List �
   pub answers : r ≡ (outcome room at (p ∷ ps)).answer
   pub tells : out' ≡ splice at (outcome room at (p ∷ ps)).told out
 
-off-by : (t : Bool) (at : ℕ) (bs : List ℕ) (r : Bytes) → OneOf (1 ∷ 2 ∷ []) (tag_of the_type r) → r ≡ pick t (To (at + length bs)) TooMany → (t ≡ false) × (r ≡ TooMany)
-off-by true at bs (To n) k e = ⊎_elim (λ x. absurd (omega arith)) (λ x. absurd (omega arith)) k
+off-by : (t : Bool) (at : ℕ) (bs : List ℕ) (r : Bytes) → ((x : ℕ) → r ≡ To x → ⊥) → r ≡ pick t (To (at + length bs)) TooMany → (t ≡ false) × (r ≡ TooMany)
+off-by true at bs (To n) k e = absurd (k n refl)
 off-by true at bs NotBytes k e = absurd (let z : ◌≡◌ {A = ℕ} 0 1 = cc in omega arith)
 off-by true at bs TooMany k e = absurd (let z : ◌≡◌ {A = ℕ} 0 1 = cc in omega arith)
 off-by false at bs r k e = (refl, e)
 
-stops : (p : Spelt) (ps : List Spelt) (room at : ℕ) (out out' : List ℕ) (r : Bytes) → length out ≡ room → Adds p at out out' r → OneOf (1 ∷ 2 ∷ []) (tag_of the_type r) → Off p ps room at out out' r
+stops : (p : Spelt) (ps : List Spelt) (room at : ℕ) (out out' : List ℕ) (r : Bytes) → length out ≡ room → Adds p at out out' r → ((x : ℕ) → r ≡ To x → ⊥) → Off p ps room at out out' r
 unfolding outcome splice
 stops faulty ps room at out out' r l a k = record { answers = a.tells; tells = a.lent }
 stops (bytes bs) ps room at out out' r l a k =
@@ -410,7 +406,7 @@ module _ (s : List ℕ) (out₀ : List ℕ) where
       pub come-fits : (next : ℕ) → Adds here at out out' (To next) → next ≤ length out₀
       come-fits next a = (goes_on here (map part_of (parts_from s (e + 1))) (length out₀) at next out out' l a).fits
 
-      pub come-off : (r : Bytes) → Adds here at out out' r → OneOf (1 ∷ 2 ∷ []) (tag_of the_type r) → Fills o out₀ out' r
+      pub come-off : (r : Bytes) → Adds here at out out' r → ((x : ℕ) → r ≡ To x → ⊥) → Fills o out₀ out' r
       come-off r a k =
           let g : Off here (map part_of (parts_from s (e + 1))) (length out₀) at out out' r = stops here (map part_of (parts_from s (e + 1))) (length out₀) at out out' r l a k in
           record { lent = g.tells ∙ sym (ap (λ (f : Outcome). splice at f.told out) as-cut) ∙ c.tells; tells = g.answers ∙ sym (ap (λ (f : Outcome). f.answer) as-cut) ∙ sym c.answers }

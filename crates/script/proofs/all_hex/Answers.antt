@@ -1,9 +1,6 @@
 -- `script::all_hex` meets its contract. The loop's invariant: what is left, from here, is all hex where the whole is. Assumes nothing.
-use Prim.Native.Nat.{◌-◌}
-use mathlib.Core.Path.{◌≡◌, refl, sym, ◌∙◌}
-use native.Mathlib.Omega.{arith}
-use lib.ListN.{length, get_or, drop}
-use Rattle.words.specs.Lists.{all}
+use mathlib.Core.Path.{sym, ◌∙◌}
+use lib.ListN.{get_or}
 use Rattle.script.specs.Bytes.{hex}
 use Rattle.script.proofs.Parts.{all-hit, all-miss, all_end, hex-is, hex-not}
 use Rattle.script.proofs.all_hex.Goals as goal

@@ -1,11 +1,9 @@
 -- `script::all_hex` meets its contract. The loop's invariant: what is left, from here, is all hex where the whole is. Assumes nothing.
 use Prim.Native.Nat.{◌-◌}
-use mathlib.Core.Path.{◌≡◌, refl, sym, ◌∙◌}
-use native.Mathlib.Omega.{arith}
-use lib.ListN.{length, get_or, drop}
+use mathlib.Core.Path.{◌≡◌}
+use lib.ListN.{length, drop}
 use Rattle.words.specs.Lists.{all}
 use Rattle.script.specs.Bytes.{hex}
-use Rattle.script.proofs.Parts.{all-hit, all-miss, all_end, hex-is, hex-not}
 use Rattle.script.proofs.all_hex.Given as goal
 
 abbrev pub invariant-loop-i : goal.invariant-loop-i

@@ -1,11 +1,7 @@
 -- `script::bytes_of` meets its contract. The loop's invariant: what is left of the parts, from here, gives what the whole gives. Assumes nothing.
-use Prim.Native.Nat.{◌+◌, ◌-◌, ◌≤◌}
-use mathlib.Core.Path.{◌≡◌, refl, sym, ◌∙◌}
-use borrow.Author.Rules.{rules}
+use mathlib.Core.Path.{refl, sym, ◌∙◌}
 use native.Mathlib.Omega.{arith}
-use lib.ListN.{length}
-use Rattle.script.specs.Bytes.{bytes_of}
-use Rattle.script.proofs.Parts.{Come, come-none, come-start, come-on, come-fits, come-off, come-end, part-starts, part-ends}
+use Rattle.script.proofs.Parts.{come-none, come-start, come-on, come-fits, come-off, come-end, part-starts, part-ends}
 use Rattle.script.proofs.bytes_of.Goals as goal
 
 pub returns-then-is : goal.returns-then-is
@@ -20,17 +16,17 @@ until-end-requires c = tt
 pub slice_bounds-part-count : goal.slice_bounds-part-count
 slice_bounds-part-count c = omega (arith, part-starts _ _ _ c.loop-from-test.true c.until-end.ensures)
 
--- LEFT slice-bounds-part-start
--- part-starts _ _ _ c.loop-from-test.true c.until-end.ensures
+pub slice_bounds-part-start : goal.slice_bounds-part-start
+slice_bounds-part-start c = part-starts _ _ _ c.loop-from-test.true c.until-end.ensures
 
--- LEFT slice-bounds-part-end
--- part-ends _ _ _ c.loop-from-test.true c.until-end.ensures
+pub slice_bounds-part-end : goal.slice_bounds-part-end
+slice_bounds-part-end c = part-ends _ _ _ c.loop-from-test.true c.until-end.ensures
 
 pub part-p-requires : goal.part-p-requires
 part-p-requires c = omega (arith, c.loop-from.invariant.0, c.loop-from.invariant.1)
 
 pub returns-in_default : goal.returns-in_default
-returns-in_default c = come-off _ _ _ _ _ _ c.loop-from.invariant.2 _ c.loop-from-test.true c.until-end.ensures _ c.loop-from.invariant.0 _ c.part-p.ensures c.in-To.in-To-own.keys2
+returns-in_default c = come-off _ _ _ _ _ _ c.loop-from.invariant.2 _ c.loop-from-test.true c.until-end.ensures _ c.loop-from.invariant.0 _ c.part-p.ensures c.in_default.not-To
 
 pub overflow_add-from : goal.overflow_add-from
 overflow_add-from c = omega (arith, part-ends _ _ _ c.loop-from-test.true c.until-end.ensures)

@@ -1,11 +1,9 @@
 -- `script::bytes_of` meets its contract. The loop's invariant: what is left of the parts, from here, gives what the whole gives. Assumes nothing.
 use Prim.Native.Nat.{◌+◌, ◌-◌, ◌≤◌}
-use mathlib.Core.Path.{◌≡◌, refl, sym, ◌∙◌}
-use borrow.Author.Rules.{rules}
-use native.Mathlib.Omega.{arith}
+use mathlib.Core.Path.{◌≡◌}
 use lib.ListN.{length}
 use Rattle.script.specs.Bytes.{bytes_of}
-use Rattle.script.proofs.Parts.{Come, come-none, come-start, come-on, come-fits, come-off, come-end, part-starts, part-ends}
+use Rattle.script.proofs.Parts.{Come}
 use Rattle.script.proofs.bytes_of.Given as goal
 
 abbrev pub invariant-loop-from : goal.invariant-loop-from

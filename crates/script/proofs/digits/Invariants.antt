@@ -1,11 +1,9 @@
 -- `script::digits` meets its contract. The loop's invariant: the digits that are left, behind what those before stand for, give what the whole gives. Assumes nothing.
-use Prim.Native.Nat.{◌≤◌, ◌-◌, ◌+◌}
-use mathlib.Core.Path.{◌≡◌, sym, ap, ◌∙◌}
-use native.Mathlib.Omega.{arith}
-use lib.ListN.{length, get_or, drop}
+use Prim.Native.Nat.{◌≤◌, ◌-◌}
+use mathlib.Core.Path.{◌≡◌}
+use lib.ListN.{length, drop}
 use Rattle.script.specs.Numbers.{digits_of}
-use Rattle.script.specs.declared.Number.{Number}
-use Rattle.script.proofs.Numbers.{rest, rest-none, rest_all, rest_more, rest-done, Small, small-grown}
+use Rattle.script.proofs.Numbers.{rest, Small}
 use Rattle.script.proofs.digits.Given as goal
 
 abbrev pub invariant-loop-i : goal.invariant-loop-i

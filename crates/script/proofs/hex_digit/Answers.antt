@@ -1,5 +1,4 @@
 -- `script::hex_digit` meets its contract. Assumes nothing.
-use borrow.Author.Rules.{rules}
 use native.Mathlib.Omega.{arith}
 use Rattle.script.proofs.Parts.{hex-low, hex-digit, hex-between, hex-high, hex-letter}
 use Rattle.script.proofs.hex_digit.Goals as goal

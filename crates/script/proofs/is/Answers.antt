@@ -1,9 +1,6 @@
 -- `script::is` meets its contract. The loop's invariant: what is left, from here, is the same where the whole is. Assumes nothing.
-use Prim.Native.Nat.{◌≤◌, ◌-◌}
-use mathlib.Core.Path.{◌≡◌, refl, sym, ◌∙◌}
+use mathlib.Core.Path.{refl, sym, ◌∙◌}
 use native.Mathlib.Omega.{arith}
-use lib.ListN.{length, drop}
-use Rattle.script.specs.Words.{same}
 use Rattle.script.proofs.Words.{same_next, same_not, same_end, same-lengths}
 use Rattle.script.proofs.is.Goals as goal
 

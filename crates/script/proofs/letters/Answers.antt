@@ -1,5 +1,4 @@
 -- `script::letters` meets its contract. Assumes nothing.
-use borrow.Author.Rules.{rules}
 use Rattle.script.proofs.Words.{letters-past, letters-back, letters-rest}
 use Rattle.script.proofs.letters.Goals as goal
 

@@ -1,5 +1,4 @@
 -- `script::lower` meets its contract. Assumes nothing.
-use borrow.Author.Rules.{rules}
 use native.Mathlib.Omega.{arith}
 use Rattle.script.proofs.Numbers.{lower-wide, lower-none, lower-some, lower-under, lower_in}
 use Rattle.script.proofs.lower.Goals as goal

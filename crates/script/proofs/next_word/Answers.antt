@@ -1,5 +1,4 @@
 -- `script::next_word` meets its contract. Assumes nothing.
-use borrow.Author.Rules.{rules}
 use Rattle.script.proofs.Words.{word-is}
 use Rattle.script.proofs.next_word.Goals as goal
 

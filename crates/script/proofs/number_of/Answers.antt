@@ -1,5 +1,4 @@
 -- `script::number_of` meets its contract. Assumes nothing.
-use borrow.Author.Rules.{rules}
 use Rattle.script.proofs.Numbers.{number_short, number-first, number-second, number-power}
 use Rattle.script.proofs.number_of.Goals as goal
 

@@ -1,5 +1,4 @@
 -- `script::part` meets its contract. Assumes nothing.
-use borrow.Author.Rules.{rules}
 use Rattle.script.proofs.Parts.{adds-as, part-short, part-run, part_up, part-plain}
 use Rattle.script.proofs.part.Goals as goal
 

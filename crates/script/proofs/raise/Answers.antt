@@ -1,5 +1,4 @@
 -- `script::raise` meets its contract. Assumes nothing.
-use borrow.Author.Rules.{rules}
 use Rattle.script.proofs.Numbers.{raise-wide, raise-over, raise-in}
 use Rattle.script.proofs.raise.Goals as goal
 

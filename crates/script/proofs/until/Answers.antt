@@ -1,11 +1,6 @@
 -- `script::until` meets its contract. The loop's invariant: what is found from here is what is found from the start. Assumes nothing.
-use Prim.Native.Nat.{◌-◌}
-use mathlib.Core.Path.{◌≡◌, refl, sym, ◌∙◌}
-use native.Mathlib.Omega.{arith}
-use lib.ListN.{length}
-use Rattle.script.specs.Words.{sought, until}
+use mathlib.Core.Path.{sym, ◌∙◌}
 use Rattle.script.proofs.Words.{until-hit, until-miss, until_end}
-use borrow.Author.Rules.{rules}
 use Rattle.script.proofs.until.Goals as goal
 
 pub returns-then-is_sought : goal.returns-then-is_sought

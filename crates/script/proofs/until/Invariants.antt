@@ -1,11 +1,8 @@
 -- `script::until` meets its contract. The loop's invariant: what is found from here is what is found from the start. Assumes nothing.
 use Prim.Native.Nat.{◌-◌}
-use mathlib.Core.Path.{◌≡◌, refl, sym, ◌∙◌}
-use native.Mathlib.Omega.{arith}
+use mathlib.Core.Path.{◌≡◌}
 use lib.ListN.{length}
 use Rattle.script.specs.Words.{sought, until}
-use Rattle.script.proofs.Words.{until-hit, until-miss, until_end}
-use borrow.Author.Rules.{rules}
 use Rattle.script.proofs.until.Given as goal
 
 abbrev pub invariant-loop-i : goal.invariant-loop-i

@@ -1,8 +1,7 @@
 -- `script::write_pairs` meets its contract. The loop's invariant: what is left to set down, from here, gives what the whole gives. Assumes nothing.
 use Prim.Native.Nat.{◌-◌}
-use native.Mathlib.Omega.{arith}
 use lib.ListN.{length}
-use Rattle.script.proofs.Parts.{Paired, paired-start, paired-two, paired-fits, paired-more, paired-end, hex-here, hex-next}
+use Rattle.script.proofs.Parts.{Paired}
 use Rattle.script.proofs.write_pairs.Given as goal
 
 abbrev pub invariant-loop-i : goal.invariant-loop-i

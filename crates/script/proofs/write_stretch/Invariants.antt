@@ -1,7 +1,6 @@
 -- `script::write_stretch` meets its contract. The loop's invariant: what is left to set down, from here, gives what the whole gives. Assumes nothing.
 use Prim.Native.Nat.{◌-◌}
-use native.Mathlib.Omega.{arith}
-use Rattle.script.proofs.Parts.{Drawn, drawn-start, drawn-more, drawn-end}
+use Rattle.script.proofs.Parts.{Drawn}
 use Rattle.script.proofs.write_stretch.Given as goal
 
 abbrev pub invariant-loop-i : goal.invariant-loop-i
