@@ -95,6 +95,7 @@ module _ (msg : List ℕ) where
   come : (is : List ℕ) → All (λ i. i < pieces_of (length msg)) is → (s : SliceConstructor × List ℕ) → Going msg s.0 s.1 → (j : ℕ)
       → Memᴰ j is → get_or (after_all msg s is).0.received j false ≡ true
   unfolding All reached
+  come [] low s g j m = elim m [ ]
   come (i ∷ is) low s g j (Memᴰ.head e) =
       rw e (stay is low.1 (called msg s i) (goes_on s.0 s.1 g i low.0) i (comes s.0 s.1 g i low.0))
   come (i ∷ is) low s g j (Memᴰ.tail m) = come is low.1 (called msg s i) (goes_on s.0 s.1 g i low.0) j m

@@ -1,5 +1,4 @@
 -- `SliceConstructor::answer` meets its contract: by the test on the two counts. Assumes nothing.
-use borrow.Author.Rules.{rules}
 use borrow.Author.Tests.{eq-eqb, ne_eqb}
 use Rattle.slice_constructor.specs.Collect.{answer_of}
 use Rattle.slice_constructor.proofs.SliceConstructor.answer.Goals as goal

@@ -1,6 +1,5 @@
 -- `SliceConstructor::blank` meets its contract. Assumes nothing.
 use native.Mathlib.Omega.{arith}
-use borrow.Author.Rules.{rules}
 use Rattle.slice_constructor.proofs.Valid.{blank-valid}
 use Rattle.slice_constructor.proofs.SliceConstructor.blank.Goals as goal
 

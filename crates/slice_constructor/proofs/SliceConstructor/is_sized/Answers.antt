@@ -1,5 +1,4 @@
 -- `SliceConstructor::is_sized` meets its contract: by the test for the last piece. Assumes nothing.
-use borrow.Author.Rules.{rules}
 use borrow.Author.Tests.{eq-eqb, ne_eqb}
 use Rattle.slice_constructor.proofs.SliceConstructor.is_sized.Goals as goal
 

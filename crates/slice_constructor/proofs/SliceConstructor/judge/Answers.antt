@@ -1,6 +1,5 @@
 -- `SliceConstructor::judge` meets its contract: each answer by the tests that led to it. Assumes nothing.
 use mathlib.Core.Path.{sym, ◌∙◌}
-use borrow.Author.Rules.{rules}
 use borrow.Author.Tests.{lt-ltb, le-ltb, le-leb, lt-leb}
 use Rattle.slice_constructor.specs.Collect.{collect_refusal}
 use Rattle.slice_constructor.proofs.SliceConstructor.judge.Goals as goal

@@ -1,5 +1,4 @@
 -- `SliceConstructor::keep` meets its contract: by the test on the two counts. Assumes nothing.
-use borrow.Author.Rules.{rules}
 use borrow.Author.Tests.{eq-eqb, ne_eqb}
 use Rattle.slice_constructor.proofs.SliceConstructor.keep.Goals as goal
 

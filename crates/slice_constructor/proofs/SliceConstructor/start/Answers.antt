@@ -1,5 +1,4 @@
 -- `SliceConstructor::start` meets its contract. Assumes nothing.
-use borrow.Author.Rules.{rules}
 use Rattle.slice_constructor.proofs.SliceConstructor.start.Goals as goal
 
 pub returns-then-fresh : goal.returns-then-fresh

@@ -1,15 +1,10 @@
 -- `SliceConstructor::take` meets its contract: a repeat, the last piece, or another. Assumes nothing.
 use native.Mathlib.Omega.{arith}
-use borrow.Author.Rules.{rules}
 use borrow.Author.Tests.{eq-eqb, ne_eqb}
 use Rattle.words.proofs.Lists.{holds-le}
 use Rattle.slice_constructor.specs.Collect.{taken, lane_taken}
 use Rattle.slice_constructor.proofs.Valid.{good, piece-room, in_table}
 use Rattle.slice_constructor.proofs.SliceConstructor.take.Goals as goal
-
-)
-
-)
 
 pub bounds-self-i : goal.bounds-self-i
 bounds-self-i c = let p = c.requires in omega (arith, in_table _ p.0 _ _ _ (good _ _ _ _ p.1), p.0.received-long)
@@ -32,14 +27,14 @@ overflow_add-self c = let v = c.requires.0 in omega (arith, holds-le c.args.self
 
 pub returns-then-i-self : goal.returns-then-i-self
 unfolding taken lane_taken
-returns-then-i-self c =
-    (
+returns-then-i-self c = (
   simp (c.if-here.false, eq-eqb _ _ c.if-i-self.true),
   simp c.if-here.false c.write_bytes.ensures.1,
+)
 
 pub returns-else-i-self : goal.returns-else-i-self
 unfolding taken lane_taken
-returns-else-i-self c =
-    (
+returns-else-i-self c = (
   simp (c.if-here.false, ne_eqb _ _ c.if-i-self.false),
   simp c.if-here.false c.write_bytes.ensures.1,
+)
