@@ -1,5 +1,5 @@
 -- `ack` at each of its cases, and what is found then. Assumes nothing.
-use Prim.Native.Nat.{ℕ, zero, suc, ◌+◌, ◌*◌, ◌/◌, ◌-◌, ◌≤◌, ◌<◌}
+use Prim.Native.Nat.{ℕ, zero, suc, ◌+◌, ◌≤◌, ◌<◌}
 use mathlib.Core.Path.{◌≡◌, refl, sym, ap, ◌∙◌, subst}
 use mathlib.Core.List.{List, ◌∷◌, reverse}
 use native.Mathlib.Omega.{arith}
@@ -7,7 +7,7 @@ use borrow.Author.Tests.{le-leb, lt-leb}
 use lib.ListN.{length, length-reverse}
 use Rattle.words.specs.Refusal.{number_of}
 use Rattle.words.specs.declared.Refusal.{Refusal}
-use Rattle.octets.specs.Reader.{Res, ok, fault, then, Good, num_of}
+use Rattle.octets.specs.Reader.{Res, ok, fault, then, num_of}
 use Rattle.octets.specs.Varint.{var}
 use Rattle.octets.specs.declared.Got.{Got}
 use Rattle.octets.specs.declared.Got.TheVariants.{Value, Short}
@@ -15,7 +15,7 @@ use Rattle.packet_ack.specs.declared.Highest.{Highest}
 use Rattle.packet_ack.specs.declared.Highest.TheVariants.{Whole, Refused}
 use Rattle.packet_ack.specs.declared.Walk.{Walk}
 use Rattle.packet_ack.specs.declared.Walk.TheVariants as walk_case
-use Rattle.packet_ack.specs.Ack.{Range, Ack, lower, lowers, ack, judged, tabled, told, read_of}
+use Rattle.packet_ack.specs.Ack.{Range, Ack, lower, lowers, ack, judged, tabled, read_of}
 use Rattle.packet_ack.specs.Steps.{range, highest, highest_of, ended, walk_of, filled_from, FindGives}
 use Rattle.packet_ack.specs.declared.Found.{Found}
 use Rattle.packet_ack.proofs.Fill.{filled-rising}

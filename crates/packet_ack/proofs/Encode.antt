@@ -1,10 +1,10 @@
 -- `put_ack` at each of its cases, in the terms in which code meets them. Assumes nothing.
 use Prim.Native.Nat.{ℕ, zero, suc, ◌+◌, ◌-◌, ◌≤◌, ◌<◌}
 use mathlib.Core.Path.{◌≡◌, refl, sym, ap, ◌∙◌, subst}
-use mathlib.Core.Bool.{true, false, not}
-use mathlib.Core.List.{List, ◌∷◌, ◌++◌}
+use mathlib.Core.Bool.{true, false}
+use mathlib.Core.List.{List}
 use native.Mathlib.Omega.{arith}
-use borrow.Author.Tests.{lt-ltb, le-ltb, le-leb, lt-leb, not-false}
+use borrow.Author.Tests.{lt-ltb, le-ltb, le-leb, lt-leb}
 use lib.ListN.{length}
 use Rattle.words.specs.Sizes.{LIMIT}
 use Rattle.words.specs.Lists.{splice, all, reached}
@@ -14,10 +14,9 @@ use Rattle.octets.specs.declared.Put.TheVariants.{To}
 use Rattle.octets.specs.Varint.{var_len}
 use Rattle.packet_ack.specs.declared.Judgement.{Judgement}
 use Rattle.packet_ack.specs.declared.Front.{Front}
-use Rattle.packet_ack.specs.declared.Pen.{Pen}
 use Rattle.packet_ack.specs.Ack.{Range}
 use Rattle.packet_ack.specs.Write.{sayable, record_at, listed, rising, lowers_bytes, ack_bytes, ack_refusal, put_ack}
-use Rattle.packet_ack.specs.Steps.{below, falling_below, unjudged_in, begun, stepped, judged_next, judged_in, range_len_of, front_len, front_bytes, Writable, FrontOf}
+use Rattle.packet_ack.specs.Steps.{below, falling_below, unjudged_in, begun, stepped, judged_next, judged_in, range_len_of, front_len, front_bytes, FrontOf}
 use Rattle.packet_ack.proofs.Pass.{judged-sayable, judged-rising, judged-spare, judged-top, judged-steps}
 use Rattle.packet_ack.proofs.Wrote.{length_front}
 use Rattle.packet_ack.proofs.Whole.{top-sayable, top-falling, ack-parts, length-ack, Known, known_of}
@@ -85,20 +84,20 @@ module _ (seq : ℕ) (t : List Range) (count at m : ℕ) where
       is-rising : j.rising ≡ rising (listed t 0 count)
       is-rising = ap (λ (j : Judgement). j.rising) (ej ∙ judged-is t count (m - at) h) ∙ rising-is t count (m - at)
 
-      pub bad-range : not j.sayable ≡ true → refused 13 ≡ put_ack seq t count at m
+      pub bad-range : j.sayable ≡ false → refused 13 ≡ put_ack seq t count at m
       unfolding put_ack ack_refusal
       bad-range u = simp (le-ltb _ _ h, lt-leb _ _ k, ← is-sayable, u)
 
-      module _ (u : not j.sayable ≡ false) where
+      module _ (u : j.sayable ≡ true) where
         pub all-sayable : all sayable (listed t 0 count) ≡ true
-        all-sayable = sym is-sayable ∙ not-false j.sayable u
+        all-sayable = sym is-sayable ∙ u
 
-        pub not-rising : not j.rising ≡ true → refused 5 ≡ put_ack seq t count at m
+        pub not-rising : j.rising ≡ false → refused 5 ≡ put_ack seq t count at m
         unfolding put_ack ack_refusal
         not-rising v = simp (le-ltb _ _ h, lt-leb _ _ k, all-sayable, ← is-rising, v)
 
-        pub all-rising : not j.rising ≡ false → rising (listed t 0 count) ≡ true
-        all-rising v = sym is-rising ∙ not-false j.rising v
+        pub all-rising : j.rising ≡ true → rising (listed t 0 count) ≡ true
+        all-rising v = sym is-rising ∙ v
 
 -- ---- the ranges are good, and there are n below the highest
 

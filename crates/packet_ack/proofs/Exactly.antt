@@ -32,6 +32,9 @@ exact-sized last size = exact-as f g (exact-if (exact-le size last 5) (exact-giv
 
 -- ---- a lower range, and k of them
 
+end-is : {last size : ℕ} {r : Range} → Sized last size r → r.end ≡ last + 1
+end-is (layout.sized e) = refl
+
 data LowerAt (above at : ℕ) : Range → List ℕ → Type 0 where
   lower-at : {gap last size : ℕ} {r : Range} {a b : List ℕ} → r.end + gap + 1 ≡ above → Sized last size r → Varint gap a → Varint size b → LowerAt above at r (a ++ b)
 
@@ -43,14 +46,16 @@ unfolding lower
 exact-lower above = exact-as f g (exact-then exact-var (λ gap. exact-if (exact-le (2 + gap) above 5) (exact-then exact-var (λ size. exact-sized (above - gap - 2) size))))
   where
     f : (at : ℕ) (r : Range) (bs : List ℕ) → LowerRead above at r bs → LowerAt above at r bs
-    f at r bs (both {a = gap} v (judged l (both {xs = b} w (sized-at (layout.sized e))))) =
-        let q : above - gap - 2 + 1 + gap + 1 ≡ above = omega arith in
-        rw (append-nil b) (lower-at q (layout.sized e) v w)
+    f at r bs (both {a = gap} v (judged l (both {xs = b} w (sized-at z)))) =
+        let d = end-is z in
+        let q : r.end + gap + 1 ≡ above = omega arith in
+        rw (append-nil b) (lower-at q z v w)
 
     g : (at : ℕ) (r : Range) (bs : List ℕ) → LowerAt above at r bs → LowerRead above at r bs
-    g at r bs (lower-at {gap = gap} {b = b} n (layout.sized {last = last} e) v w) =
+    g at r bs (lower-at {gap = gap} {last = last} {b = b} n z v w) =
+        let d = end-is z in
         let q : last ≡ above - gap - 2 = omega arith in
-        rw (← append-nil b) (both v (judged (omega arith) (both w (sized-as q (layout.sized e)))))
+        rw (← append-nil b) (both v (judged (omega arith) (both w (sized-as q z))))
 
 data LowersAt (k above at : ℕ) : List Range → List ℕ → Type 0 where
   lowers_at : {rs : List Range} {bs : List ℕ} → LowersSpelt above rs bs → length rs ≡ k → LowersAt k above at rs bs

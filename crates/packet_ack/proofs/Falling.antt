@@ -1,5 +1,5 @@
 -- Ranges from the lowest up and from the highest down: the same ranges, in order where the others are. Assumes nothing.
-use Prim.Native.Nat.{ℕ, zero, suc, ◌+◌, ◌-◌, ◌*◌, ◌≤◌, ◌<◌}
+use Prim.Native.Nat.{ℕ, zero, suc, ◌+◌, ◌*◌, ◌≤◌, ◌<◌}
 use mathlib.Core.Path.{◌≡◌, refl, sym, ap, ◌∙◌}
 use mathlib.Core.Bool.{Bool, true, false}
 use mathlib.Core.List.{List, [], ◌∷◌, reverse_aux, reverse}
@@ -10,7 +10,7 @@ use lib.ListN.{length}
 use Rattle.words.specs.Choice.{pick}
 use Rattle.words.specs.Lists.{all}
 use Rattle.packet_ack.specs.Ack.{Range}
-use Rattle.packet_ack.specs.Write.{record_at, listed, rising_after, rising}
+use Rattle.packet_ack.specs.Write.{listed, rising_after, rising}
 use Rattle.packet_ack.specs.Steps.{below, falling_below, falling}
 
 -- ---- the ranges of a table

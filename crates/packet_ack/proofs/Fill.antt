@@ -1,7 +1,7 @@
 -- The table that `fill_ranges` makes: ranges stored from the highest down make the rising table. Assumes nothing.
 use Prim.Native.Nat.{ℕ, zero, suc, ◌+◌, ◌≤◌, ◌<◌}
 use mathlib.Core.Path.{◌≡◌, refl, sym, ap, ◌∙◌}
-use mathlib.Core.List.{List, [], ◌∷◌, ◌++◌, reverse, reverse-cons}
+use mathlib.Core.List.{List, [], ◌∷◌, reverse, reverse-cons}
 use native.Mathlib.Omega.{arith}
 use native.Mathlib.Nat.{add-suc, suc-add}
 use lib.ListN.{length, set, length-reverse}

@@ -1,8 +1,5 @@
 pub mod Bound
 pub mod Read
-pub mod Again
-pub mod Arrays
-pub mod Counted
 pub mod Fill
 pub mod Decode
 pub mod Falling
@@ -12,3 +9,4 @@ pub mod Whole
 pub mod Encode
 pub mod Exactly
 pub mod Theorems
+pub mod Turns

@@ -6,7 +6,7 @@ use Rattle.std.specs.Prelude.{ℕ, zero, suc, ◌+◌, ◌-◌, List, [], ◌∷
 use Rattle.words.specs.Choice.{pick}
 use Rattle.words.specs.Lists.{splice}
 use Rattle.words.specs.Refusal.{number_of}
-use Rattle.octets.specs.Reader.{Res, ok, fault, then, Reader, ◌>>=◌, ◌>>◌, give, need}
+use Rattle.octets.specs.Reader.{Res, ok, fault, Reader, ◌>>=◌, ◌>>◌, give, need}
 use Rattle.octets.specs.Varint.{var}
 use Rattle.packet_ack.specs.declared.AckRead.{AckRead}
 use Rattle.packet_ack.specs.declared.AckRead.TheVariants.{Whole, Refused}

@@ -1,5 +1,5 @@
 -- The layout of packets of acknowledgements as a relation: which bytes spell a packet that document 01 allows, with varints in any of their lengths. Assumes nothing.
-use Rattle.std.specs.Prelude.{ℕ, ◌+◌, ◌≤◌, ◌<◌, ◌≡◌, List, [], ◌∷◌, ◌++◌, reverse, length}
+use Rattle.std.specs.Prelude.{ℕ, ◌+◌, ◌≡◌, List, [], ◌∷◌, ◌++◌, reverse, length}
 use Rattle.octets.specs.Spelling.{Varint}
 use Rattle.packet_ack.specs.Ack.{Range, Ack}
 use Rattle.packet_ack.specs.Write.{type_byte_of}

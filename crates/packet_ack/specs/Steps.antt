@@ -4,7 +4,7 @@ use Rattle.words.specs.Sizes.{LIMIT}
 use Rattle.words.specs.Choice.{pick}
 use Rattle.words.specs.Lists.{splice, reached}
 use Rattle.words.specs.Refusal.{number_of}
-use Rattle.octets.specs.Reader.{Res, ok, fault, then, Reader, ◌>>=◌, give}
+use Rattle.octets.specs.Reader.{Res, ok, fault, Reader, ◌>>=◌, give}
 use Rattle.octets.specs.Writer.{put_of, left}
 use Rattle.octets.specs.Varint.{var, var_len, var_bytes}
 use Rattle.packet_ack.specs.Ack.{Range, sized, lower, ack, judged, tabled, told, read_of}

@@ -1,5 +1,5 @@
 -- Packets of acknowledgements, written. Document 01, "Packet layouts" and the order of refusals in encoding. Assumes nothing.
-use Rattle.std.specs.Prelude.{ℕ, zero, suc, ◌+◌, ◌-◌, Bool, true, false, not, List, [], ◌∷◌, ◌++◌, reverse, length, get_or, ltb, leb, eqb}
+use Rattle.std.specs.Prelude.{ℕ, zero, suc, ◌+◌, ◌-◌, Bool, true, false, not, List, [], ◌∷◌, ◌++◌, reverse, length, get_or, ltb, leb}
 use Rattle.words.specs.Sizes.{LIMIT}
 use Rattle.words.specs.Choice.{pick, refusal}
 use Rattle.words.specs.Lists.{all}

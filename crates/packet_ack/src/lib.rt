@@ -202,7 +202,7 @@ pub fn fill_ranges(ranges: &mut [Range], s: &[u8], top: Spot, n: usize)
     }
 }
 
-// The same of a table by value: whoever has one needs no walk by hand.
+// The same of a table by value.
 pub fn fill_table(table: [Range; RANGES], s: &[u8], top: Spot, n: usize) -> [Range; RANGES]
     requires { n ≤ RANGES }
     ensures { result ≡ filled_from n s.now top table }

@@ -1,7 +1,5 @@
 -- `packet_ack::find_ack` meets its contract: what was read says which case of `ack` holds. Assumes nothing.
 use mathlib.Core.Path.{refl}
-use native.Mathlib.Omega.{arith}
-use borrow.Author.Rules.{rules}
 use Rattle.packet_ack.proofs.Decode.{refused, no-seq, no-highest, no_lower, table-full, table_fits}
 use Rattle.packet_ack.proofs.find_ack.Goals as goal
 

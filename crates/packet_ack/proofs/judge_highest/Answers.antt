@@ -1,5 +1,4 @@
 -- `packet_ack::judge_highest` meets its contract. Assumes nothing.
-use borrow.Author.Rules.{rules}
 use Rattle.packet_ack.specs.Steps.{begun}
 use Rattle.packet_ack.proofs.judge_highest.Goals as goal
 

@@ -1,5 +1,4 @@
 -- `packet_ack::judge_lower` meets its contract. Assumes nothing.
-use borrow.Author.Rules.{rules}
 use Rattle.packet_ack.specs.Steps.{range}
 use Rattle.packet_ack.proofs.Pass.{stepped-is}
 use Rattle.packet_ack.proofs.judge_lower.Goals as goal

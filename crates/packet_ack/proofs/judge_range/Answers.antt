@@ -1,6 +1,5 @@
 -- `packet_ack::judge_range` meets its contract. Assumes nothing.
 use mathlib.Core.Path.{◌∙◌}
-use borrow.Author.Rules.{rules}
 use Rattle.packet_ack.proofs.judge_range.Goals as goal
 
 pub returns-then-first : goal.returns-then-first

@@ -1,5 +1,4 @@
 -- `packet_ack::lower_spot` meets its contract. Assumes nothing.
-use borrow.Author.Rules.{rules}
 use Rattle.packet_ack.proofs.Fill.{spot-refused, spot-whole}
 use Rattle.packet_ack.proofs.lower_spot.Goals as goal
 

@@ -1,9 +1,8 @@
 -- `packet_ack::put_front` meets its contract: the tests that led to each `return` say which case of `put_ack` holds. Assumes nothing.
-use Prim.Native.Nat.{ℕ, suc, ◌+◌, ◌-◌, ◌<◌}
-use mathlib.Core.Path.{◌≡◌, refl}
+use Prim.Native.Nat.{ℕ, ◌+◌, ◌-◌, ◌<◌}
+use mathlib.Core.Path.{◌≡◌}
 use mathlib.Core.List.{List}
 use native.Mathlib.Omega.{arith}
-use borrow.Author.Rules.{rules}
 use lib.ListN.{length}
 use Rattle.octets.specs.Varint.{var_len}
 use Rattle.packet_ack.specs.Ack.{Range}
@@ -52,16 +51,16 @@ pub write_front-next-requires : goal.write_front-next-requires
 write_front-next-requires c =
     let y = c.requires in
     let g = good-at (goal.at.write_front-next-requires c).Else-not-rising y.table y.holds y.judged (head-is (goal.at.write_front-next-requires c).After-form_len-2) in
-    ((c.if-seq-ge-LIMIT.false, g.sized, g.within, g.few), omega (arith, g.fits c.if-spare-head.false))
+    record { seq_bound = (c.if-seq-ge-LIMIT.false, g.sized, g.within, g.few); n_in_bounds = omega (arith, g.fits c.if-spare-head.false) }
 
 pub overflow_sub-result-3 : goal.overflow_sub-result-3
 overflow_sub-result-3 c =
     let y = c.requires in
     let g = good-at (goal.at.overflow_sub-result-3 c).Else-not-rising y.table y.holds y.judged (head-is (goal.at.overflow_sub-result-3 c).After-form_len-2) in
-    omega (arith, g.small, c.write_front-next.auto.0)
+    omega (arith, g.small, c.write_front-next.auto.out)
 
 pub returns : goal.returns
 returns c =
     λ t l e.
     let w = c.write_front-next.ensures in
-    front-done _ t _ _ _ _ _ _ (good-at (goal.at.returns c).Else-not-rising t l e (head-is (goal.at.returns c).After-form_len-2)) c.if-spare-head.false w.0 w.1 c.write_front-next.auto.0
+    front-done _ t _ _ _ _ _ _ (good-at (goal.at.returns c).Else-not-rising t l e (head-is (goal.at.returns c).After-form_len-2)) c.if-spare-head.false w.0 w.1 c.write_front-next.auto.out

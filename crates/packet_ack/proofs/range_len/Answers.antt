@@ -1,5 +1,4 @@
 -- `packet_ack::range_len` meets its contract. Assumes nothing.
-use borrow.Author.Rules.{rules}
 use Rattle.packet_ack.proofs.range_len.Goals as goal
 
 pub returns : goal.returns

@@ -1,6 +1,5 @@
 -- `packet_ack::read_highest` meets its contract: what was read says which case of `highest` holds. Assumes nothing.
 use native.Mathlib.Omega.{arith}
-use borrow.Author.Rules.{rules}
 use Rattle.packet_ack.proofs.Bound.{read_below}
 use Rattle.packet_ack.proofs.Read.{no_last, no-top-size, no-remaining, bad-top, top-whole}
 use Rattle.packet_ack.proofs.read_highest.Goals as goal
@@ -19,7 +18,7 @@ returns-then-last-size c = search bad-top
 
 pub overflow_add-result : goal.overflow_add-result
 overflow_add-result c =
-    let g = read_below _ c.shared_slice_known-1.given _ c.get_varint.ensures c.in-Value.is in
+    let g = read_below _ c.type_inv.s _ c.get_varint.ensures c.in-Value.is in
     omega arith
 
 pub returns : goal.returns

@@ -1,11 +1,8 @@
 -- `packet_ack::walk_lowers` meets its contract. The loop's invariant: what is left to walk ends as the whole does.
 -- Assumes nothing.
-use mathlib.Core.Path.{◌≡◌, refl}
-use native.Mathlib.Omega.{arith}
-use borrow.Author.Rules.{rules}
+use mathlib.Core.Path.{◌≡◌}
 use Rattle.packet_ack.specs.Ack.{lowers}
 use Rattle.packet_ack.specs.Steps.{ended}
-use Rattle.packet_ack.proofs.Read.{walk_none, walk_refused, walk_more}
 use Rattle.packet_ack.proofs.walk_lowers.Given as goal
 
 abbrev pub invariant-loop-left : goal.invariant-loop-left

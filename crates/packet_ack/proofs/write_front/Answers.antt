@@ -1,6 +1,5 @@
 -- `packet_ack::write_front` meets its contract: its three parts, written one after the other. Assumes nothing.
 use native.Mathlib.Omega.{arith}
-use borrow.Author.Rules.{rules}
 use Rattle.packet_ack.proofs.Wrote.{front-wrote}
 use Rattle.packet_ack.proofs.write_front.Goals as goal
 

@@ -1,5 +1,4 @@
 -- `packet_ack::write_lower` meets its contract. Assumes nothing.
-use borrow.Author.Rules.{rules}
 use Rattle.packet_ack.proofs.Wrote.{pen-is}
 use Rattle.packet_ack.proofs.write_lower.Goals as goal
 

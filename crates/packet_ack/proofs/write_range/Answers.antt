@@ -1,6 +1,5 @@
 -- `packet_ack::write_range` meets its contract. Assumes nothing.
 use native.Mathlib.Omega.{arith}
-use borrow.Author.Rules.{rules}
 use Rattle.packet_ack.proofs.Wrote.{range-wrote}
 use Rattle.packet_ack.proofs.write_range.Goals as goal
 
