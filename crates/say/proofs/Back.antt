@@ -15,7 +15,7 @@ use Rattle.words.proofs.Lists.{all_snoc, all_drop}
 use Rattle.script.specs.Words.{same}
 use Rattle.script.specs.Numbers.{digit, digits_of, power, number_of}
 use Rattle.script.specs.declared.Number.TheVariants.{Value}
-use Rattle.script.specs.Bytes.{hex_of, hex, pair_of, pairs_of, then, stretch, bytes, plain_of, stretch_of, part_of, grown, parts_of, behind, outcome, bytes_of}
+use Rattle.script.specs.Bytes.{hex_of, hex, pair_of, pairs_of, then, stretch, bytes, plain_of, stretch_of, part_of, grown, parts_of, outcome, bytes_of}
 use Rattle.script.specs.declared.Bytes.TheVariants.{To}
 use Rattle.script.proofs.Parts.{all_cons, hex-digit, hex-letter, plain-is, part-short, part-plain, part-run, part_up, length-stretch}
 use Rattle.say.specs.Say.{decimal_of, places}

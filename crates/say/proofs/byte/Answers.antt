@@ -1,0 +1,10 @@
+-- `say::byte` meets its contract. Assumes nothing.
+use Rattle.say.proofs.Page.{says-as}
+use Rattle.say.proofs.Spelling.{byte-is}
+use Rattle.say.proofs.byte.Goals as goal
+
+pub returns : goal.returns
+returns c =
+    says-as _ _ _ _ _ _
+    (byte-is _ c.hex-k.result _ c.ranges.b.fits c.hex-k.ensures.len c.hex-k.ensures.digits)
+    c.text.ensures
