@@ -8,9 +8,11 @@ ghost use Rattle.script.specs.Ascii.{ascii};
 ghost use Rattle.say.specs.Spelled.{WIDEST, point_of, text_of};
 ghost use Rattle.page.specs.Page.{DIGITS, REFUSAL, sheet, place_for, put, said, said_number, said_refusal, letter_said, next_number, lined, spelt};
 
-use libc::STDOUT_FILENO;
 use say::{Before, Part};
 use words::Refusal;
+
+// The standard output.
+const STDOUT: i32 = 1;
 
 // The most letters of a number.
 const DIGITS: usize = 20;
@@ -53,7 +55,7 @@ pub fn flush(page: &[u8], at: usize) -> usize
     ensures { result ≡ 0 }
 {
     let n = part(at, page);
-    io::write_all(STDOUT_FILENO, &page[..n]);
+    io::write_all(STDOUT, &page[..n]);
     0
 }
 
