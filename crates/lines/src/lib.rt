@@ -185,6 +185,5 @@ fn to_front(buf: &mut [u8], from: usize, to: usize) -> usize
 fn read(fd: i32, room: &mut [u8]) -> usize
     ensures { IsPrefixLen result room.new }
 {
-    let got = libc::read(fd, room);
-    io::count(got, room)
+    io::read_full(fd, room)
 }

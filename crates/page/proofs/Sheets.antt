@@ -7,17 +7,14 @@ use native.Mathlib.Numerals.{add-one}
 use native.Mathlib.Nat.{not-suc-le-zero, zero-min, min-zero, suc-min-suc}
 use lib.ListN.{length, get_or, drop, length-drop, drop_of_length-le}
 use lib.Seq.{drop-cons, drop-drop, drop-nil}
-use lib.Dec.{eqb, leb}
 use borrow.Author.Tests.{le-leb, lt-leb}
-use Rattle.words.specs.Choice.{pick}
-use Rattle.words.specs.Lists.{splice}
 use Rattle.script.specs.Ascii.{ascii}
 use Rattle.say.specs.Say.{Says}
 use Rattle.say.specs.Spelled.{WIDEST, Puts, part_at, length_of, past_of, kind_of, point_of, text_of}
 use Rattle.say.specs.declared.Before.{Before}
 use Rattle.say.specs.declared.Before.TheVariants.{Nothing}
 use Rattle.say.specs.declared.Part.{Part}
-use Rattle.page.specs.Page.{Sheet, sheet, place_for, put_at, put, said, letter_said, next_number, lined_from, spelt_from, spelt}
+use Rattle.page.specs.Page.{Sheet, sheet, place_for, put, said, letter_said, next_number, lined_from, spelt_from, spelt}
 
 -- ---- a place with room
 

@@ -1,5 +1,5 @@
 -- What is set down on a page that is written out when there is no room. Assumes nothing.
-use Rattle.std.specs.Prelude.{ℕ, zero, suc, ◌+◌, max, ◌≡◌, Bool, List, [], ◌∷◌, ◌++◌, length, get_or, drop, eqb, leb}
+use Rattle.std.specs.Prelude.{ℕ, zero, suc, ◌+◌, max, List, [], ◌∷◌, ◌++◌, length, get_or, drop, eqb, leb}
 use Rattle.words.specs.Choice.{pick}
 use Rattle.words.specs.Lists.{splice}
 use Rattle.words.specs.declared.Refusal.{Refusal}

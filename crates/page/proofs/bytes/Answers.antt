@@ -1,8 +1,6 @@
 -- `page::bytes` meets its contract: what is left, from the index on, gives what the whole gives. Assumes nothing.
 use borrow.Author.Rules.{rules}
-use mathlib.Core.Path.{◌≡◌, refl}
-use lib.ListN.{length, drop}
-use Rattle.page.specs.Page.{sheet, spelt_from, spelt}
+use mathlib.Core.Path.{refl}
 use Rattle.page.proofs.Sheets.{spelt-again, spelt-start, spelt-short, spelt-end, spelt-nothing}
 use Rattle.page.proofs.bytes.Goals as goal
 

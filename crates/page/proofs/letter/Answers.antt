@@ -1,10 +1,7 @@
 -- `page::letter` meets its contract: by the test. Assumes nothing.
-use borrow.Author.Rules.{rules}
 use native.Mathlib.Omega.{arith}
-use Prim.Native.Nat.{ℕ}
-use mathlib.Core.Path.{refl, ap, ◌∙◌}
+use mathlib.Core.Path.{refl}
 use borrow.Author.Tests.{eq-eqb, ne_eqb}
-use Rattle.page.specs.Page.{said_number}
 use Rattle.page.proofs.letter.Goals as goal
 
 pub returns-then-c-eq35 : goal.returns-then-c-eq35

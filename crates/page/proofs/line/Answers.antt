@@ -1,10 +1,7 @@
 -- `page::line` meets its contract: what is left, from the index on, gives what the whole gives. Assumes nothing.
 use borrow.Author.Rules.{rules}
 use native.Mathlib.Omega.{arith}
-use Prim.Native.Nat.{◌-◌, ◌≤◌}
-use mathlib.Core.Path.{◌≡◌, refl}
-use lib.ListN.{length, drop}
-use Rattle.page.specs.Page.{sheet, lined_from}
+use mathlib.Core.Path.{refl}
 use Rattle.page.proofs.Sheets.{line-again, line-end}
 use Rattle.page.proofs.line.Goals as goal
 

@@ -1,5 +1,4 @@
 -- `page::number` meets its contract: what `say` sets down at a place with room. Assumes nothing.
-use borrow.Author.Rules.{rules}
 use Rattle.page.proofs.Sheets.{put-says}
 use Rattle.page.proofs.number.Goals as goal
 

@@ -1,7 +1,6 @@
 -- `page::refusal` meets its contract: the word before, and then what `say` sets down. Assumes nothing.
-use borrow.Author.Rules.{rules}
 use mathlib.Core.Path.{ap, ◌∙◌}
-use Rattle.page.specs.Page.{Sheet, REFUSAL, put}
+use Rattle.page.specs.Page.{REFUSAL, put}
 use Rattle.page.proofs.Sheets.{put-says}
 use lib.ListN.{length}
 use Rattle.say.specs.Refused.{refusal_of}

@@ -1,5 +1,4 @@
 -- `page::room` meets its contract: by the two tests. Assumes nothing.
-use borrow.Author.Rules.{rules}
 use native.Mathlib.Omega.{arith}
 use Rattle.page.proofs.Sheets.{place_here, place-front}
 use Rattle.page.proofs.room.Goals as goal

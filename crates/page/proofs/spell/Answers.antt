@@ -1,5 +1,4 @@
 -- `page::spell` meets its contract: what `say` sets down at a place with room. Assumes nothing.
-use borrow.Author.Rules.{rules}
 use Rattle.page.proofs.Sheets.{put-puts}
 use Rattle.page.proofs.spell.Goals as goal
 

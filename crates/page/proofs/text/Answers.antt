@@ -1,5 +1,4 @@
 -- `page::text` meets its contract: what `say` sets down at a place with room. Assumes nothing.
-use borrow.Author.Rules.{rules}
 use Rattle.page.proofs.Sheets.{put-says}
 use Rattle.page.proofs.text.Goals as goal
 

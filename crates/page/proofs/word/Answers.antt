@@ -1,5 +1,4 @@
 -- `page::word` meets its contract: a place past the end reads as 0. Assumes nothing.
-use borrow.Author.Rules.{rules}
 use native.Mathlib.Omega.{arith}
 use mathlib.Core.Path.{sym}
 use lib.ListN.{get_or-eq_default}

@@ -1,5 +1,4 @@
 -- `page::words_from` meets its contract: behind the end there is none. Assumes nothing.
-use borrow.Author.Rules.{rules}
 use native.Mathlib.Omega.{arith}
 use Prim.Native.Nat.{◌-◌}
 use mathlib.Core.Path.{sym}

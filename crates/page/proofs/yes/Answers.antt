@@ -1,5 +1,4 @@
 -- `page::yes` meets its contract: by the test. Assumes nothing.
-use borrow.Author.Rules.{rules}
 use Rattle.page.proofs.yes.Goals as goal
 
 pub returns-then-holds : goal.returns-then-holds
