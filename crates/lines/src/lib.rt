@@ -181,7 +181,7 @@ fn to_front(buf: &mut [u8], from: usize, to: usize) -> usize
     n
 }
 
-// Reads once, and answers how many bytes came.
+// Reads until there is no room or no more comes, and answers how many bytes came.
 fn read(fd: i32, room: &mut [u8]) -> usize
     ensures { IsPrefixLen result room.new }
 {

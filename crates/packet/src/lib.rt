@@ -229,8 +229,7 @@ fn lent(n: usize) -> usize
     RANGES
 }
 
-// Reads as `from_bytes` does, into the first records of a table of ranges by value: of so many, or of all. Whoever
-// holds no slice of ranges needs no walk by hand.
+// Reads as `from_bytes` does, into the first records of a table of ranges by value: of so many, or of all.
 pub fn decode(
     bytes: &[u8],
     messages: &mut [u64],
