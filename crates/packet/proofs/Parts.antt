@@ -72,6 +72,9 @@ judged-by (ReliableSlice p) t m e u = tt
 judged-by (UnreliableSlice p) t m e u = tt
 judged-by (Ack p) t m e u = rw (e, u) (ap (λ (k : ℕ). reached judged_next (unjudged_in k) (below t (to_judge p.count (length t)))) (sym (sub-zero m)))
 
+pub judged-all : (p : Packet) (t : List Range) (m : ℕ) {c : ℕ} {j₀ j : Judgement} → c ≡ ranges_named_of p (length t) → j₀ ≡ unjudged_in m → j ≡ reached judged_next j₀ (below t c) → JudgedBy p t m j
+judged-all p t m s s' e = subst (JudgedBy p t m) (sym e) (judged-by p t m s s')
+
 -- ---- the first records of a table by value
 
 pub lent-within : (n : ℕ) → lent_of n ≤ RANGES

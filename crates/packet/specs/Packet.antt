@@ -3,7 +3,7 @@ use Rattle.std.specs.Prelude.{ℕ, ◌*◌, ◌≡◌, Bool, true, false, List, 
 use Rattle.words.specs.Choice.{pick}
 use Rattle.words.specs.Lists.{splice}
 use Rattle.words.specs.Refusal.{number_of}
-use Rattle.octets.specs.Reader.{Res, ok, fault, then, Reader, ◌>>=◌, byte}
+use Rattle.octets.specs.Reader.{Res, ok, fault, Reader, ◌>>=◌, byte}
 use Rattle.packet_small.specs.Small as s
 use Rattle.packet_slice.specs.Slice as l
 use Rattle.packet_ack.specs.Ack as a

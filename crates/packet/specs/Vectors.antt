@@ -1,6 +1,6 @@
 -- The marked cases of document 01 as one table, and one fact over all its rows. Assumes nothing.
-use Rattle.std.specs.Prelude.{ℕ, zero, suc, ◌+◌, ◌*◌, ◌≡◌, refl, Bool, true, false, not, List, [], ◌∷◌, ◌++◌, map, reverse, eqb, leb, length, take, drop, replicate}
-use Rattle.words.specs.Choice.{pick, refusal}
+use Rattle.std.specs.Prelude.{ℕ, zero, suc, ◌≡◌, refl, Bool, true, false, List, [], ◌∷◌, ◌++◌, map, eqb, leb, length, replicate}
+use Rattle.words.specs.Choice.{pick}
 use Rattle.words.specs.Lists.{all}
 use Rattle.words.specs.Sizes.{SLICE_SIZE}
 use Rattle.words.specs.Pieces.{pieces_of, piece_of}
@@ -8,7 +8,6 @@ use Rattle.octets.specs.Reader.{Res, ok, fault, byte, pair, bytes, need}
 use Rattle.octets.specs.Varint.{var, more, form_len_of, run, var_bytes, tagged, low_bytes, var_len, run_bytes}
 use Rattle.packet_small.specs.Small as s
 use Rattle.packet_small.specs.Write as sw
-use Rattle.packet_slice.specs.Slice as l
 use Rattle.packet_ack.specs.Ack as a
 use Rattle.packet_ack.specs.declared.Range.{Range}
 use Rattle.packet_ack.specs.Write as aw
