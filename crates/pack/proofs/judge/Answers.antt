@@ -5,41 +5,34 @@ use borrow.Author.Tests.{le-ltb, lt-ltb}
 use Rattle.words.specs.Sizes.{LIMIT}
 use Rattle.pack.specs.Encode.{ENTRY}
 use Rattle.pack.specs.Rows.{round_number}
-use Rattle.pack.proofs.judge.Statement.{statement}
-use Rattle.pack.proofs.judge.Tie as tie
+use Rattle.pack.proofs.judge.Goals as goal
 
-sub-if1 : tie.Need-overflow-sub-if1
-sub-if1 c = omega arith
-
-returns : tie.Need-returns
+pub returns-then-packets-seq : goal.returns-then-packets-seq
 unfolding round_number
-returns c =
-    let a = c.before.args in
+returns-then-packets-seq c =
+    let a = c.args in
     let h : LIMIT < a.sequence.0 + a.packed.packets = omega arith in
     simp (lt-ltb _ _ h)
 
-returns-2 : tie.Need-returns-2
+pub returns-then-room-packed : goal.returns-then-room-packed
 unfolding round_number
-returns-2 c =
-    let a = c.before.before.before.args in
+returns-then-room-packed c =
+    let a = c.args in
     let h : a.sequence.0 + a.packed.packets ≤ LIMIT = omega arith in
-    simp (le-ltb _ _ h, lt-ltb _ _ c.if2.true)
+    simp (le-ltb _ _ h, lt-ltb _ _ c.if-room-packed.true)
 
-returns-3 : tie.Need-returns-3
+pub returns-then-entries-packets : goal.returns-then-entries-packets
 unfolding round_number
-returns-3 c =
-    let a = c.before.before.before.before.args in
+returns-then-entries-packets c =
+    let a = c.args in
     let h : a.sequence.0 + a.packed.packets ≤ LIMIT = omega arith in
     let k : a.entries < ENTRY * a.packed.packets = omega arith in
-    simp (le-ltb _ _ h, le-ltb _ _ c.before.if2.false, lt-ltb _ _ k)
+    simp (le-ltb _ _ h, le-ltb _ _ c.if-room-packed.false, lt-ltb _ _ k)
 
-returns-4 : tie.Need-returns-4
+pub returns : goal.returns
 unfolding round_number
-returns-4 c =
-    let a = c.before.before.before.before.args in
+returns c =
+    let a = c.args in
     let h : a.sequence.0 + a.packed.packets ≤ LIMIT = omega arith in
     let k : ENTRY * a.packed.packets ≤ a.entries = omega arith in
-    simp (le-ltb _ _ h, le-ltb _ _ c.before.if2.false, le-ltb _ _ k)
-
-pub judge-spec : {M : Type 1} → statement M
-judge-spec = tie.close (tie.spec sub-if1 returns returns-2 returns-3 returns-4)
+    simp (le-ltb _ _ h, le-ltb _ _ c.if-room-packed.false, le-ltb _ _ k)
