@@ -2,14 +2,11 @@
 use Prim.Native.Nat.{ℕ, ◌+◌, ◌-◌, ◌*◌, ◌≤◌, ◌<◌}
 use mathlib.Core.Path.{◌≡◌, refl, sym, ap, ◌∙◌}
 use mathlib.Core.Bool.{Bool, true, false}
-use mathlib.Core.List.{List, [], ◌∷◌, ◌++◌}
-use mathlib.Core.Logic.{⊎_elim}
+use mathlib.Core.List.{List, ◌++◌}
 use native.Mathlib.Omega.{arith}
 use borrow.Author.Tests.{eqb-true}
 use lib.Dec.{eqb}
 use lib.ListN.{length, get_or, take, drop}
-use types.Run.{OneOf}
-use denote.Enum.Declared.{tag_of}
 use Rattle.words.specs.Sizes.{SLICE_SIZE, LANES, PIECES}
 use Rattle.words.specs.Choice.{pick}
 use Rattle.words.specs.Lists.{splice}
@@ -24,7 +21,6 @@ use Rattle.slice_constructor.specs.declared.SliceConstructor.{SliceConstructor}
 use Rattle.slice_constructor.specs.declared.Collected.{Collected}
 use Rattle.slice_constructor.specs.declared.Collect.TheVariants as collect
 use Rattle.slice_constructor.specs.Collect as c
-use Rattle.slice_constructor.specs.contracts.Collect as Collect'
 use Rattle.slice_constructor.proofs.Valid as cv
 use Rattle.slice_constructor.proofs.Part.{charge-most, piece-refused, piece-good, taken-now, store-back}
 use Rattle.receive_reliable.specs.Receive.{new_of, MadeGives, Outcome, refused, arrival_of, MessageSpot, cell, nowhere, message_spot, with_message_of, MessageGives, SliceSpot, opened, fresh, nothing, constructor_at, placed, slice_spot, with_lane_of, SliceGives, look_of, without_cell, without_lane, TakeGives, Valid}
@@ -32,21 +28,20 @@ use Rattle.receive_reliable.specs.Steps.{held_in, shown_at, told, message_to, sl
 use Rattle.receive_reliable.specs.declared.ReceiveChannelReliable.{ReceiveChannelReliable}
 use Rattle.receive_reliable.specs.declared.Arrival.{Arrival}
 use Rattle.receive_reliable.specs.declared.Arrival.TheVariants as arrival
-use Rattle.receive_reliable.specs.contracts.Arrival as Arrival'
 use Rattle.receive_reliable.specs.declared.SlicePlace.{SlicePlace}
+use Rattle.receive_reliable.specs.declared.Store.{Store}
 use Rattle.receive_reliable.specs.declared.Store.TheVariants.{Small, Lanes}
 use Rattle.receive_reliable.specs.declared.Look.{Look}
 use Rattle.receive_reliable.specs.declared.Look.TheVariants as look
 use Rattle.receive_reliable.specs.declared.Held.{Held}
 use Rattle.receive_reliable.specs.declared.Held.TheVariants as held
-use Rattle.receive_reliable.specs.contracts.Held as Held'
 use Rattle.receive_reliable.proofs.Valid.{new-valid, message-valid, lane-valid, without-cell-valid, without-lane-valid}
 use Rattle.receive_reliable.proofs.Spots.{Entered, small-held, lane-held, waiting-nothing, waiting-shown, take-nothing, take-small, take-lanes, spot-cell, open-fits, fresh-fits, spot-opened, spot-fresh, spot-nothing}
 
 -- ---- a take
 
 module _ (s : ReceiveChannelReliable) (v : Valid s) where
-  pub took-nothing : (h : Held) → held_in s s.oldest_pending_message_id ≡ h → OneOf (1 ∷ 2 ∷ []) (tag_of Held'.the_type h)
+  pub took-nothing : (h : Held) → held_in s s.oldest_pending_message_id ≡ h → ((store : Store) (i : ℕ) → h ≡ held.At store i → ⊥)
       → TakeGives s (record { answer = look.Nothing; state = s })
   took-nothing h e k = record { answer = sym (waiting-nothing s h e k); state = sym (take-nothing s h e k); valid = v }
 
@@ -71,8 +66,8 @@ module _ (s : ReceiveChannelReliable) (v : Valid s) where
 
 -- ---- what a place says
 
-not_taken : {A : Type 0} (f : Outcome → A) (x : A) (a : Arrival) → OneOf (1 ∷ 2 ∷ []) (tag_of Arrival'.the_type a) → told f x (arrival_of a) ≡ f (arrival_of a)
-not_taken f x arrival.Taken k = ⊎_elim (λ e. absurd (omega arith)) (λ e. absurd (omega arith)) k
+not_taken : {A : Type 0} (f : Outcome → A) (x : A) (a : Arrival) → (a ≡ arrival.Taken → ⊥) → told f x (arrival_of a) ≡ f (arrival_of a)
+not_taken f x arrival.Taken k = absurd (k refl)
 not_taken f x arrival.Ignored k = refl
 not_taken f x (arrival.Refused e) k = refl
 
@@ -86,7 +81,7 @@ lane-told p lane spot a e o h = sym o ∙ ap (slice_to lane) h ∙ sym e
 
 module _ (s : ReceiveChannelReliable) (v : Valid s) (id : ℕ) (bs small lane : List ℕ) where
   pub message-left : (i : ℕ) (a : Arrival) → message_to i a ≡ message_spot s id (length bs) (length small) (length lane)
-      → OneOf (1 ∷ 2 ∷ []) (tag_of Arrival'.the_type a) → MessageGives s id bs small lane small (record { answer = a; state = s })
+      → (a ≡ arrival.Taken → ⊥) → MessageGives s id bs small lane small (record { answer = a; state = s })
   message-left i a e k =
       let n = sym e ∙ not_taken nowhere (cell i) a k in
       record { answer = rw n; state = rw n; bytes = rw n; valid = v }
@@ -119,7 +114,7 @@ fits-taken s l id k f i n e =
 
 module _ (s : ReceiveChannelReliable) (v : Valid s) (id num i : ℕ) (bs small lane : List ℕ) where
   pub slice-left : (x : SliceSpot) (a : Arrival) → slice_to x a ≡ lane_spot s id num (length small) (length lane)
-      → OneOf (1 ∷ 2 ∷ []) (tag_of Arrival'.the_type a) → SliceGives s id num i bs small lane lane (record { answer = a; state = s })
+      → (a ≡ arrival.Taken → ⊥) → SliceGives s id num i bs small lane lane (record { answer = a; state = s })
   slice-left x a h k =
       let left = sym h ∙ not_taken nothing x a k in
       let e = spot-nothing s id num i (length bs) (length small) (length lane) (arrival_of a) left in
@@ -166,7 +161,7 @@ module _ {s : ReceiveChannelReliable} {id num i : ℕ} {bs small lane : List ℕ
 
   -- the lane's part of the store
   pub within : l * lane_len_of s.settings + lane_len_of s.settings ≤ length lane
-  within = let f = fits in omega (arith, lane-within s.settings l f.1.low, f.0.lane-Room)
+  within = let f = fits in omega (arith, lane-within s.settings l f.1.low, f.0.lane_room)
 
   -- the constructor that the code has, from what is stored there
   module _ (d k : SliceConstructor) (ek : k ≡ c.start_of (get_or s.constructors l d) b id num) where
@@ -198,7 +193,7 @@ module _ {s : ReceiveChannelReliable} {id num i : ℕ} {bs small lane : List ℕ
           let spot : slice_spot s id num i (length bs) (length small) (length lane) ≡ nothing (refused (number_of e)) = placed-spot ∙ rw (← started, t.0, t.1) in
           record { answer = rw spot; state = rw spot; bytes = rw spot (rw t.0 at stored); valid = x.valid }
 
-      module _ (t : OneOf (0 ∷ 1 ∷ []) (tag_of Collect'.the_type r.answer)) where
+      module _ (t : (e : Refusal) → r.answer ≡ collect.Refused e → ⊥) where
         fine : eqb (piece_refusal s k i (length bs)) 0 ≡ true
         fine = rw told-so at (piece-good k i bs lane (l * lane_len_of s.settings) m room part r g t)
 

@@ -3,13 +3,10 @@ use Prim.Native.Nat.{ℕ, ◌+◌, ◌*◌, ◌≤◌, ◌<◌}
 use mathlib.Core.Path.{◌≡◌, refl, sym, ap, ◌∙◌}
 use mathlib.Core.Bool.{Bool, true, false, not}
 use mathlib.Core.List.{[], ◌∷◌}
-use mathlib.Core.Logic.{⊎_elim, inl, inr}
 use native.Mathlib.Omega.{arith}
 use borrow.Author.Tests.{ltb-true, ltb-false, leb-false, eqb-true, eqb-false, not-true, not-false}
 use lib.Dec.{ltb, leb, eqb}
 use lib.ListN.{get_or}
-use types.Run.{OneOf}
-use denote.Enum.Declared.{tag_of}
 use Rattle.words.specs.Sizes.{SLICE_SIZE, SLOTS, LANES, LIMIT}
 use Rattle.words.specs.Choice.{pick}
 use Rattle.words.specs.Lists.{All, lowest_free_of}
@@ -26,7 +23,6 @@ use Rattle.receive_reliable.specs.declared.Store.{Store}
 use Rattle.receive_reliable.specs.declared.Store.TheVariants.{Small, Lanes}
 use Rattle.receive_reliable.specs.declared.Held.{Held}
 use Rattle.receive_reliable.specs.declared.Held.TheVariants as held
-use Rattle.receive_reliable.specs.contracts.Held as Held'
 use Rattle.receive_reliable.proofs.Valid.{CellSpot, lane-used}
 use Rattle.words.proofs.Tables.{clash}
 
@@ -89,15 +85,15 @@ module _ (s : ReceiveChannelReliable) (id : ℕ) where
   held-ignored Lanes l e = let t = in-lanes l e in rw (t.0, t.1, t.2)
 
   -- and one that is open or not here is not
-  pub absent : (h : Held) → held_in s id ≡ h → OneOf (1 ∷ 2 ∷ []) (tag_of Held'.the_type h) → (in_cell_of s id ≡ false) × (is_held s id ≡ false)
-  absent (held.At store i) e k = ⊎_elim (λ z. absurd (omega arith)) (λ z. absurd (omega arith)) k
+  pub absent : (h : Held) → held_in s id ≡ h → ((store : Store) (i : ℕ) → h ≡ held.At store i → ⊥) → (in_cell_of s id ≡ false) × (is_held s id ≡ false)
+  absent (held.At store i) e k = absurd (k store i refl)
   absent (held.Open l n) e k = let t = in-open l n e in (t.0, rw (t.0, t.1, t.2))
   absent held.Nothing e k = let t = in-neither e in (t.0, rw (t.0, t.1))
 
   -- one that is neither whole nor open has no lane
-  pub no-lane-here : is_held s id ≡ false → (h : Held) → held_in s id ≡ h → OneOf (0 ∷ 2 ∷ []) (tag_of Held'.the_type h) → in_lane_of s id ≡ false
+  pub no-lane-here : is_held s id ≡ false → (h : Held) → held_in s id ≡ h → ((l n : ℕ) → h ≡ held.Open l n → ⊥) → in_lane_of s id ≡ false
   no-lane-here f (held.At store i) e k = let t = held-ignored store i e in clash (cc)
-  no-lane-here f (held.Open l n) e k = ⊎_elim (λ z. absurd (omega arith)) (λ z. absurd (omega arith)) k
+  no-lane-here f (held.Open l n) e k = absurd (k l n refl)
   no-lane-here f held.Nothing e k = (in-neither e).1
 
   module _ (v : Valid s) where
@@ -148,7 +144,7 @@ store_len Small small lane = small
 store_len Lanes small lane = lane
 
 module _ (s : ReceiveChannelReliable) where
-  module _ (h : Held) (e : held_in s s.oldest_pending_message_id ≡ h) (k : OneOf (1 ∷ 2 ∷ []) (tag_of Held'.the_type h)) where
+  module _ (h : Held) (e : held_in s s.oldest_pending_message_id ≡ h) (k : ((store : Store) (i : ℕ) → h ≡ held.At store i → ⊥)) where
     pub waiting-nothing : waiting s ≡ none-waiting
     unfolding waiting
     waiting-nothing = let t = absent s s.oldest_pending_message_id h e k in rw (t.1, t.0)
@@ -185,8 +181,8 @@ module _ (s : ReceiveChannelReliable) where
 
     module _ (v : Valid s) (id place len : ℕ) (small-room : small_len_of s.settings ≤ small) (lane_room : lanes_len_of s.settings ≤ lane) where
       held-within : (h : Held) → held_in s s.oldest_pending_message_id ≡ h → (store : Store) → waiting s ≡ message id store place len → place + len ≤ store_len store small lane
-      held-within held.Nothing e store w = let n = waiting-nothing held.Nothing e (inr refl) in clash (cc)
-      held-within (held.Open l m) e store w = let n = waiting-nothing (held.Open l m) e (inl refl) in clash (cc)
+      held-within held.Nothing e store w = let n = waiting-nothing held.Nothing e (λ _ _ x. clash (cc)) in clash (cc)
+      held-within (held.Open l m) e store w = let n = waiting-nothing (held.Open l m) e (λ _ _ x. clash (cc)) in clash (cc)
       held-within (held.At Small i) e Lanes w = let n = waiting-shown Small i e in clash (cc)
       held-within (held.At Lanes l) e Small w = let n = waiting-shown Lanes l e in clash (cc)
       held-within (held.At Small i) e Small w =

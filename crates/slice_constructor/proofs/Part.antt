@@ -4,14 +4,11 @@ use Prim.Native.Nat.{ℕ, zero, suc, ◌+◌, ◌-◌, ◌*◌, ◌≤◌, ◌<�
 use mathlib.Core.Path.{◌≡◌, refl, sym, ap, ◌∙◌}
 use mathlib.Core.Bool.{Bool, true, false}
 use mathlib.Core.List.{List, [], ◌∷◌, ◌++◌}
-use mathlib.Core.Logic.{⊎_elim}
 use native.Mathlib.Omega.{arith}
 use borrow.Author.Tests.{eqb-true, eqb-false, le-ltb, lt-leb}
 use lib.Dec.{eqb}
 use lib.ListN.{length, get_or, take, drop, length-drop}
 use lib.Seq.{length-take-le, get_or-drop}
-use types.Run.{OneOf}
-use denote.Enum.Declared.{tag_of}
 use Rattle.words.specs.Sizes.{SLICE_SIZE}
 use Rattle.words.specs.Choice.{pick}
 use Rattle.words.specs.Lists.{splice, holds}
@@ -23,7 +20,6 @@ use Rattle.slice_constructor.specs.declared.SliceConstructor.{SliceConstructor}
 use Rattle.slice_constructor.specs.declared.Collect.{Collect}
 use Rattle.slice_constructor.specs.declared.Collect.TheVariants as collect
 use Rattle.slice_constructor.specs.declared.Collected.{Collected}
-use Rattle.slice_constructor.specs.contracts.Collect.{the_type}
 use Rattle.slice_constructor.specs.Collect as c
 use Rattle.slice_constructor.proofs.Valid as cv
 
@@ -87,11 +83,11 @@ refused-tests true true m n e h = clash (cc)
 refused-tests true false m n e h = clash (cc)
 refused-tests false whole m n e h = (refl, cc)
 
-good-test : (a : Collect) → OneOf (0 ∷ 1 ∷ []) (tag_of the_type a) → (good : Bool) (x : c.Collection) (e : ℕ) → c.collect_of a ≡ pick good x (c.refused e) → good ≡ true
+good-test : (a : Collect) → ((e : Refusal) → a ≡ collect.Refused e → ⊥) → (good : Bool) (x : c.Collection) (e : ℕ) → c.collect_of a ≡ pick good x (c.refused e) → good ≡ true
 good-test a k true x e h = refl
 good-test collect.More k false x e h = clash (cc)
 good-test (collect.Whole n) k false x e h = clash (cc)
-good-test (collect.Refused n) k false x e h = ⊎_elim (λ z. absurd (omega arith)) (λ z. absurd (omega arith)) k
+good-test (collect.Refused n) k false x e h = absurd (k n refl)
 
 module _ (k : SliceConstructor) (i : ℕ) (bs store : List ℕ) (a m : ℕ) (fits : a + m ≤ length store) (part : List ℕ) (r : Collected)
     (g : c.CollectGives k i bs (take m (drop a store)) part r) where
@@ -106,7 +102,7 @@ module _ (k : SliceConstructor) (i : ℕ) (bs store : List ℕ) (a m : ℕ) (fit
       let n = c.collect_refusal k i (length bs) m in
       refused-tests (eqb n 0) (c.is_whole d) (c.whole_len d) (number_of e) n (ap c.collect_of (sym h) ∙ rw long at g.answer)
 
-  pub piece-good : OneOf (0 ∷ 1 ∷ []) (tag_of the_type r.answer) → eqb (c.collect_refusal k i (length bs) m) 0 ≡ true
+  pub piece-good : ((e : Refusal) → r.answer ≡ collect.Refused e → ⊥) → eqb (c.collect_refusal k i (length bs) m) 0 ≡ true
   piece-good t = let n = c.collect_refusal k i (length bs) m in good-test r.answer t (eqb n 0) _ n (rw long at g.answer)
 
   -- a good piece is in the constructor

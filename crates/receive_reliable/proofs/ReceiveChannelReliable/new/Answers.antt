@@ -1,0 +1,6 @@
+-- `ReceiveChannelReliable::new` meets its contract: the settings are settled, and what is made is valid. Assumes nothing.
+use Rattle.receive_reliable.proofs.Gives.{made}
+use Rattle.receive_reliable.proofs.ReceiveChannelReliable.new.Goals as goal
+
+pub returns : goal.returns
+returns c = made _ _ _ c.settle-settled.ensures c.empty-state.ensures
