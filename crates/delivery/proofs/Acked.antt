@@ -215,10 +215,10 @@ module _ (took : List Part) (s : SendChannelReliable) (v : Valid s) (h : AckedIn
   to-bare id n (Small i t) x = tt
   to-bare id n (Sliced l a next) x = x
 
-  from-bare : (s' : SendChannelReliable) (id n : ℕ) (kd : Kind) → ((p : ℕ) → (get_or s'.pieces p no_piece).acked ≡ (get_or s.pieces p no_piece).acked) → AckedKind took s id n (bare_kind kd)
-      → AckedKind took s' id n kd
-  from-bare s' id n (Small i t) f x = tt
-  from-bare s' id n (Sliced l a next) f x = λ i low e. x i low (sym (f (l * PIECES + i)) ∙ e)
+  from-bare : (later : SendChannelReliable) (id n : ℕ) (kd : Kind) → ((p : ℕ) → (get_or later.pieces p no_piece).acked ≡ (get_or s.pieces p no_piece).acked) → AckedKind took s id n (bare_kind kd)
+      → AckedKind took later id n kd
+  from-bare later id n (Small i t) f x = tt
+  from-bare later id n (Sliced l a next) f x = λ i low e. x i low (sym (f (l * PIECES + i)) ∙ e)
 
   pub round-acked : (g : Given) → AckedIn took (state_after s g)
   unfolding state_after select

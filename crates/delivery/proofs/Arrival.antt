@@ -153,6 +153,7 @@ delivered w g id msg queued h = record { queued = at_low w.queued id queued; com
 
 all_in : {A : Type 0} (P : A → Type 0) (xs : List A) {x : A} → All P xs → In x xs → P x
 unfolding All
+all_in {A = A} P [] a x4 = elim x4 [ ]
 all_in P (y ∷ xs) a (here e) = subst P (sym e) a.0
 all_in P (y ∷ xs) a (there h) = all_in P xs a.1 h
 

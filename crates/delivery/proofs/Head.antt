@@ -74,6 +74,7 @@ counted ps at (suc n) i h =
     tell false e = omega arith
 
 same-only : {x y : ℕ} (xs : List ℕ) → length xs ≡ 1 → In x xs → In y xs → x ≡ y
+same-only {y = y} [] e x4 q = elim x4 [ ]
 same-only (z ∷ zs) e (here p) (here q) = p ∙ sym q
 same-only (z ∷ zs) e (here p) (there q) = absurd (omega (arith, in-length q))
 same-only (z ∷ zs) e (there p) q = absurd (omega (arith, in-length p))

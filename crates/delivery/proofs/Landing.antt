@@ -66,6 +66,7 @@ landed-on xs e p (inr h) = inr (all-ignored xs e p h)
 
 all-landed : (xs : List Handed) (e : Receiving) → length (reached receives e xs).refused ≤ length e.refused → (p : Part) → In p (map part_handed xs) → Landed p (reached receives e xs)
 unfolding reached
+all-landed [] e h p x'' = elim x'' [ ]
 all-landed (x ∷ xs) e h p (here q) =
     let a = refusals-grow xs (receives e x) in
     landed-on xs (receives e x) p (subst (λ (y : Part). Landed y (receives e x)) (sym q) ((one-landed e x).1 (omega arith)))

@@ -74,6 +74,7 @@ in_map f (here e) = here (ap f e)
 in_map f (there h) = there (in_map f h)
 
 pub from-map : {A B : Type 0} (f : A → B) {y : B} (xs : List A) → In y (map f xs) → (x : A) × (y ≡ f x) × In x xs
+from-map {A = A} {B = B} f {y = y} [] x' = elim x' [ ]
 from-map f (x ∷ xs) (here e) = (x, e, here refl)
 from-map f (x ∷ xs) (there h) = let r = from-map f xs h in (r.0, r.1, there r.2)
 

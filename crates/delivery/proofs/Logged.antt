@@ -135,13 +135,21 @@ run-took (ev ∷ evs) w p h = run-took evs (step ev w) p (step-took ev w p h)
 
 -- what the sender hears of was taken
 now-took : (ev : Event) (w : World) (p : Part) → In p (acked_now ev w) → In p w.receiver.took
+now-took (queues _) w p h = elim h [ ]
+now-took (rounds _ _ _ _ _) w p h = elim h [ ]
+now-took (arrives _ _ _) w p h = elim h [ ]
+now-took looks w p h = elim h [ ]
+now-took takes w p h = elim h [ ]
 now-took (hears k) w p h = at (get_elem? w.receiver.took k) refl h
   where
     at : (o : Option Part) → get_elem? w.receiver.took k ≡ o → In p (optional o) → In p w.receiver.took
+    at none e h = elim h [ ]
+    at (some x) e (there h) = elim h [ ]
     at (some x) e (here q) = subst (λ (y : Part). In y w.receiver.took) (sym q) (at_in w.receiver.took k x e)
 
 pub acked-took : (evs : List Event) (w : World) (p : Part) → In p (acked_in evs w) → In p (run evs w).receiver.took
 unfolding run acked_in
+acked-took [] w p h = elim h [ ]
 acked-took (ev ∷ evs) w p h = at (in-cases (acked_now ev w) (acked_in evs (step ev w)) h) (λ k. acked-took evs (step ev w) p k)
   where
     at : In p (acked_now ev w) ⊎ In p (acked_in evs (step ev w)) → (In p (acked_in evs (step ev w)) → In p (run evs (step ev w)).receiver.took) → In p (run evs (step ev w)).receiver.took

@@ -322,7 +322,7 @@ module _ (q : List Bytes) (s : ReceiveChannelReliable) (small lanes : Bytes) (h 
         let e : get_or (c.blank_of id num).received i false ≡ false = blank-free id num i in
         subst (λ (b : Bytes). Has q (with_lane_of s l id (c.taken (c.blank_of id num) i (length b))) small (splice (start l + i * SLICE_SIZE) b lanes)) (sym sound.bytes)
         (rw e at (piece-has l id i (c.blank_of id num) sound.msg f.1 f.0 sound.queued sound.long (blank-num id num ∙ sound.num-is)
-        (holds-new id num sound.msg (drop (start l) lanes) (omega (arith, f.0.lane-Room, f.1.most, blank-num id num)))
+        (holds-new id num sound.msg (drop (start l) lanes) (omega (arith, f.0.lane_room, f.1.most, blank-num id num)))
         (subst (λ (b : Bytes). piece_refusal s (c.blank_of id num) i (length b) ≡ 0) sound.bytes ok)))
 
     pub slice-has : Has q (slice_state s id num i (length bytes) spot) small (slice_bytes s i bytes spot lanes)

@@ -52,6 +52,7 @@ all_parts (p ∷ ps) = parts_in p ++ all_parts ps
 
 in-grouped : (x : Item) (ps : List Pack) → In x (grouped ps) → In (part_of x) (all_parts ps)
 unfolding grouped all_parts
+in-grouped x [] h = elim h [ ]
 in-grouped x (group is ∷ ps) h = at (in-cases is (grouped ps) h) (λ k. in-grouped x ps k)
   where
     at : In x is ⊎ In x (grouped ps) → (In x (grouped ps) → In (part_of x) (all_parts ps)) → In (part_of x) (map part_of is ++ all_parts ps)
@@ -61,6 +62,7 @@ in-grouped x (single i ∷ ps) h = there (in-grouped x ps h)
 
 in-singles : (x : Item) (ps : List Pack) → In x (singles ps) → In (part_of x) (all_parts ps)
 unfolding singles all_parts
+in-singles x [] h = elim h [ ]
 in-singles x (group is ∷ ps) h = in_right (map part_of is) (in-singles x ps h)
 in-singles x (single i ∷ ps) (here e) = here (ap part_of e)
 in-singles x (single i ∷ ps) (there h) = there (in-singles x ps h)
@@ -68,11 +70,13 @@ in-singles x (single i ∷ ps) (there h) = there (in-singles x ps h)
 in-smalls : (x : Item) (is : List Item) → is_small x ≡ true → In x is → In x (smalls is)
 unfolding smalls
 in-smalls x (i ∷ is) e (here q) = let t : is_small i ≡ true = ap is_small (sym q) ∙ e in rw t (here q)
+in-smalls x [] e x3 = elim x3 [ ]
 in-smalls x (i ∷ is) e (there h) = pick-cases (In x) (is_small i) (λ _. there (in-smalls x is e h)) (λ _. in-smalls x is e h)
 
 in_pieces : (x : Item) (is : List Item) → is_small x ≡ false → In x is → In x (pieces is)
 unfolding pieces
 in_pieces x (i ∷ is) e (here q) = let t : is_small i ≡ false = ap is_small (sym q) ∙ e in rw t (here q)
+in_pieces x [] e x3 = elim x3 [ ]
 in_pieces x (i ∷ is) e (there h) = pick-cases (In x) (is_small i) (λ _. in_pieces x is e h) (λ _. there (in_pieces x is e h))
 
 pub parts-kept : (x : Item) (is : List Item) → In x is → In (part_of x) (all_parts (pack true is))

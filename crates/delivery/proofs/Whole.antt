@@ -62,6 +62,7 @@ record Said (p : Part) (ps : List Bytes) : Type 0 where
 
 said-by : (ps : List Bytes) (p : Part) → In p (sent_by ps) → Said p ps
 unfolding sent_by
+said-by [] p h = elim h [ ]
 said-by (b ∷ ps) p h = at (in-cases (parts_said (reader.packet b 0)) (sent_by ps) h) (λ i. said-by ps p i)
   where
     at : In p (parts_said (reader.packet b 0)) ⊎ In p (sent_by ps) → (In p (sent_by ps) → Said p ps) → Said p (b ∷ ps)
@@ -75,6 +76,11 @@ record OnWire (p : Part) (from : ℕ) (w : World) : Type 0 where
 
 sent-now : (ev : Event) (w : World) (p : Part) → In p (sent_now ev w) → OnWire p (length w.wire) (step ev w)
 unfolding step sending
+sent-now (queues _) w p h = elim h [ ]
+sent-now (arrives _ _ _) w p h = elim h [ ]
+sent-now looks w p h = elim h [ ]
+sent-now takes w p h = elim h [ ]
+sent-now (hears _) w p h = elim h [ ]
 sent-now (rounds seq now allowance out table) w p h =
     by-test (goes w.sender.state (given_now seq now allowance w.sender) out table)
     (λ t.
@@ -87,6 +93,7 @@ sent-now (rounds seq now allowance out table) w p h =
 
 sent-in : (evs : List Event) (w : World) (p : Part) → In p (sent_in evs w) → OnWire p (length w.wire) (run evs w)
 unfolding run sent_in
+sent-in [] w p h = elim h [ ]
 sent-in (ev ∷ evs) w p h = at (in-cases (sent_now ev w) (sent_in evs (step ev w)) h) (λ i. sent-in evs (step ev w) p i)
   where
     at : In p (sent_now ev w) ⊎ In p (sent_in evs (step ev w)) → (In p (sent_in evs (step ev w)) → OnWire p (length (step ev w).wire) (run evs (step ev w)))
@@ -127,6 +134,7 @@ lands-later :
     (u : Setup) (evs : List Event) (w : World) → Good w → SetUp u w → Tabled evs w → Fits u (run evs w).queued
     → (k : ℕ) (ms rs : List ℕ) (bs : Bytes) → get_elem? w.wire k ≡ some bs → In (arrives k ms rs) evs → Arrived (parts_said (reader.packet bs 0)) (run evs w)
 unfolding run Tabled
+lands-later u [] w g t tabled f k ms rs bs e x7 p i = elim x7 [ ]
 lands-later u (ev ∷ evs) w g t tabled f k ms rs bs e (here q) p i =
     let m = run_more (ev ∷ evs) w in
     let same = step-unrefused u ev w g t tabled.0 m.0 (subst (Fits u) m.1 f) in
