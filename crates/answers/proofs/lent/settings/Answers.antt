@@ -1,5 +1,4 @@
 -- `answers::lent::settings` meets its contract: four numbers, one behind the other. Assumes nothing.
-use borrow.Author.Rules.{rules}
 use Prim.Native.Nat.{◌+◌}
 use native.Mathlib.Omega.{arith}
 use Rattle.answers.proofs.Places.{word_at}

@@ -1,5 +1,4 @@
 -- `answers::packets::bytes_at` meets its contract: by the two tests. Assumes nothing.
-use borrow.Author.Rules.{rules}
 use native.Mathlib.Omega.{arith}
 use Rattle.answers.proofs.Places.{bytes-missing, bytes-there}
 use Rattle.answers.proofs.packets.bytes_at.Goals as goal

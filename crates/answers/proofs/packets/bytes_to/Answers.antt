@@ -1,5 +1,4 @@
 -- `answers::packets::bytes_to` meets its contract: by the test. Assumes nothing.
-use borrow.Author.Rules.{rules}
 use Rattle.answers.proofs.Places.{none-to, some_to}
 use Rattle.answers.proofs.packets.bytes_to.Goals as goal
 

@@ -1,5 +1,4 @@
 -- `answers::packets::decoded` meets its contract: a refusal, or the packet and a line behind it. Assumes nothing.
-use borrow.Author.Rules.{rules}
 use mathlib.Core.Path.{ap, ◌∙◌}
 use Rattle.page.specs.Page.{lined_from}
 use Rattle.answers.specs.Packets.{decoded_said}

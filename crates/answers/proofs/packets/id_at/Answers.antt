@@ -1,5 +1,4 @@
 -- `answers::packets::id_at` meets its contract: the place is three times the index. Assumes nothing.
-use borrow.Author.Rules.{rules}
 use Prim.Native.Nat.{◌*◌}
 use native.Mathlib.Omega.{arith}
 use Rattle.packet_small.specs.Small.{RECORD}

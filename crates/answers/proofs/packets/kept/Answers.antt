@@ -1,5 +1,4 @@
 -- `answers::packets::kept` meets its contract: by the place and the length in the table. Assumes nothing.
-use borrow.Author.Rules.{rules}
 use Prim.Native.Nat.{◌+◌, ◌*◌}
 use native.Mathlib.Omega.{arith}
 use Rattle.answers.specs.Rounds.{ENTRY, start_at, kept_at}

@@ -1,12 +1,9 @@
 -- `answers::packets::listed` meets its contract: each turn is one packet more. The packets past the index fall with each turn. Assumes nothing.
-use borrow.Author.Rules.{rules}
 use Prim.Native.Nat.{◌-◌, ◌≤◌}
-use mathlib.Core.Path.{◌≡◌, refl}
-use native.Mathlib.Omega.{arith}
-use native.Mathlib.Numerals.{add-one}
+use mathlib.Core.Path.{◌≡◌}
 use lib.ListN.{length}
 use Rattle.page.specs.Page.{sheet}
-use Rattle.answers.specs.Rounds.{desk, Listed, none, more}
+use Rattle.answers.specs.Rounds.{desk, Listed}
 use Rattle.answers.proofs.packets.listed.Given as goal
 
 abbrev pub invariant-loop-k : goal.invariant-loop-k

@@ -1,5 +1,4 @@
 -- `answers::packets::message_at` meets its contract: by the place and the length that stand behind the id. Assumes nothing.
-use borrow.Author.Rules.{rules}
 use Prim.Native.Nat.{◌+◌, ◌*◌}
 use native.Mathlib.Omega.{arith}
 use Rattle.packet_small.specs.Small.{RECORD}

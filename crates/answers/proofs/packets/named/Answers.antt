@@ -1,5 +1,4 @@
 -- `answers::packets::named` meets its contract: the name, and a line behind it. Assumes nothing.
-use borrow.Author.Rules.{rules}
 use mathlib.Core.Path.{ap, ◌∙◌}
 use Rattle.page.specs.Page.{lined_from}
 use Rattle.answers.proofs.packets.named.Goals as goal

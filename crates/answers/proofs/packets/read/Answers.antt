@@ -1,5 +1,4 @@
 -- `answers::packets::read` meets its contract: what is read into the table of ranges that the words name is set down again. Assumes nothing.
-use borrow.Author.Rules.{rules}
 use mathlib.Core.Path.{ap, ◌∙◌}
 use mathlib.Core.List.{List}
 use lib.ListN.{length}

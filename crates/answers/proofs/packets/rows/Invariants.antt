@@ -1,11 +1,8 @@
 -- `answers::packets::rows` meets its contract: what is left, from a place on, gives what the whole gives. What is left falls with each turn. Assumes nothing.
-use borrow.Author.Rules.{rules}
-use mathlib.Core.Path.{◌≡◌, refl}
-use native.Mathlib.Omega.{arith}
+use mathlib.Core.Path.{◌≡◌}
 use lib.ListN.{length, drop}
 use Rattle.page.specs.Page.{sheet}
 use Rattle.answers.specs.Packets.{rows_said}
-use Rattle.answers.proofs.Rows.{rows-again, rows_end}
 use Rattle.answers.proofs.packets.rows.Given as goal
 
 abbrev pub invariant-loop-left : goal.invariant-loop-left

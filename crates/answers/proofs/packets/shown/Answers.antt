@@ -1,5 +1,4 @@
 -- `answers::packets::shown` meets its contract: a line, the bytes and a space. Assumes nothing.
-use borrow.Author.Rules.{rules}
 use mathlib.Core.Path.{ap, ◌∙◌}
 use Rattle.page.specs.Page.{put, spelt}
 use Rattle.answers.specs.Rounds.{shown_said}

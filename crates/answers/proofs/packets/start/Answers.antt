@@ -1,5 +1,4 @@
 -- `answers::packets::start` meets its contract: the place is twice the index. Assumes nothing.
-use borrow.Author.Rules.{rules}
 use Prim.Native.Nat.{◌*◌}
 use native.Mathlib.Omega.{arith}
 use Rattle.answers.specs.Rounds.{ENTRY, start_at}

@@ -1,5 +1,4 @@
 -- `answers::packets::taken_apart` meets its contract: the bytes, what is read there, and both in words. Assumes nothing.
-use borrow.Author.Rules.{rules}
 use Rattle.answers.proofs.Lines.{apart}
 use Rattle.answers.proofs.packets.taken_apart.Goals as goal
 

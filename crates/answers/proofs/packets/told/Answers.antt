@@ -1,5 +1,4 @@
 -- `answers::packets::told` meets its contract: a refusal, or the packet. Assumes nothing.
-use borrow.Author.Rules.{rules}
 use Rattle.answers.specs.Packets.{told_said}
 use Rattle.answers.proofs.packets.told.Goals as goal
 

@@ -1,5 +1,4 @@
 -- `answers::packets::whole` meets its contract: by the kind of the packet. Assumes nothing.
-use borrow.Author.Rules.{rules}
 use mathlib.Core.Path.{refl}
 use Rattle.answers.specs.Packets.{packet_said}
 use Rattle.answers.proofs.Lines.{rows_behind}
