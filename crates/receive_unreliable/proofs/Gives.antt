@@ -1,15 +1,12 @@
 -- What the public functions give, from where a message, a piece, a walk or a look leads. Assumes nothing.
-use Prim.Native.Nat.{ℕ, ◌+◌, ◌-◌, ◌*◌, ◌≤◌, ◌<◌}
+use Prim.Native.Nat.{ℕ, ◌+◌, ◌*◌, ◌≤◌, ◌<◌}
 use mathlib.Core.Path.{◌≡◌, refl, sym, ap, ◌∙◌}
 use mathlib.Core.Bool.{Bool, true, false}
-use mathlib.Core.List.{List, [], ◌∷◌, ◌++◌}
-use mathlib.Core.Logic.{⊎_elim}
+use mathlib.Core.List.{List, [], ◌++◌}
 use native.Mathlib.Omega.{arith}
 use borrow.Author.Tests.{eqb-true, lt-ltb, le-ltb}
 use lib.Dec.{eqb}
 use lib.ListN.{length, get_or, take, drop}
-use types.Run.{OneOf}
-use denote.Enum.Declared.{tag_of}
 use Rattle.words.specs.Sizes.{SLICE_SIZE, LANES, PIECES}
 use Rattle.words.specs.Choice.{pick}
 use Rattle.words.specs.Lists.{splice}
@@ -25,7 +22,6 @@ use Rattle.slice_constructor.specs.declared.SliceConstructor.{SliceConstructor}
 use Rattle.slice_constructor.specs.declared.Collected.{Collected}
 use Rattle.slice_constructor.specs.declared.Collect.TheVariants as collect
 use Rattle.slice_constructor.specs.Collect as c
-use Rattle.slice_constructor.specs.contracts.Collect as Collect'
 use Rattle.slice_constructor.proofs.Valid as cv
 use Rattle.slice_constructor.proofs.Part.{piece-refused, piece-good, taken-now, store-back}
 use Rattle.receive_unreliable.specs.Receive.{new_of, MadeGives, constructor_at, Place, at-cell, at-lane, no_place, next_place, Outcome, refused, arrival_of, MessageSpot, cell, nowhere, message_spot, with_message_of, MessageGives, SliceSpot, opened, fresh, nothing, lane_spot, piece_refusal, slice_spot, judged, with_piece, SliceGives, walk_state, walk_count, at_time, discard_answer, discard_state, DiscardGives, Waiting, message, refusing, shown_at, look_of, look_at, part_at, without_cell, without_lane, TakeGives, Valid}
@@ -33,7 +29,6 @@ use Rattle.receive_unreliable.specs.Steps.{held_of, told, message_to, slice_plac
 use Rattle.receive_unreliable.specs.declared.ReceiveChannelUnreliable.{ReceiveChannelUnreliable}
 use Rattle.receive_unreliable.specs.declared.Arrival.{Arrival}
 use Rattle.receive_unreliable.specs.declared.Arrival.TheVariants as arrival
-use Rattle.receive_unreliable.specs.contracts.Arrival as Arrival'
 use Rattle.receive_unreliable.specs.declared.SlicePlace.{SlicePlace}
 use Rattle.receive_unreliable.specs.declared.Discard.TheVariants as discard
 use Rattle.receive_unreliable.specs.declared.Store.{Store}
@@ -41,7 +36,6 @@ use Rattle.receive_unreliable.specs.declared.Store.TheVariants.{Small, Lanes}
 use Rattle.receive_unreliable.specs.declared.Held.TheVariants as held
 use Rattle.receive_unreliable.specs.declared.Look.{Look}
 use Rattle.receive_unreliable.specs.declared.Look.TheVariants as look
-use Rattle.receive_unreliable.specs.contracts.Look as Look'
 use Rattle.receive_unreliable.proofs.Valid.{new-valid, message-valid, without-cell-valid, without-lane-valid, time-valid, piece-valid}
 use Rattle.receive_unreliable.proofs.Spots.{Lies, cell_lies, lane_lies, spot-cell, Entered, open-fits, fresh-fits}
 use Rattle.receive_unreliable.proofs.Walk.{walk-valid}
@@ -53,8 +47,8 @@ made s d t g et = record { number = g.number; state = et ∙ ap new_of g.setting
 
 -- ---- what a place says
 
-not_taken : {A : Type 0} (f : Outcome → A) (x : A) (a : Arrival) → OneOf (1 ∷ 2 ∷ []) (tag_of Arrival'.the_type a) → told f x (arrival_of a) ≡ f (arrival_of a)
-not_taken f x arrival.Taken k = ⊎_elim (λ e. absurd (omega arith)) (λ e. absurd (omega arith)) k
+not_taken : {A : Type 0} (f : Outcome → A) (x : A) (a : Arrival) → (a ≡ arrival.Taken → ⊥) → told f x (arrival_of a) ≡ f (arrival_of a)
+not_taken f x arrival.Taken k = absurd (k refl)
 not_taken f x arrival.Dropped k = refl
 not_taken f x (arrival.Refused e) k = refl
 
@@ -68,7 +62,7 @@ lane-told p lane spot a e o h = sym o ∙ ap (slice_to lane) h ∙ sym e
 
 module _ (s : ReceiveChannelUnreliable) (v : Valid s) (bs small lane : List ℕ) where
   pub message-left : (i : ℕ) (a : Arrival) → message_to i a ≡ message_spot s (length bs) (length small) (length lane)
-      → OneOf (1 ∷ 2 ∷ []) (tag_of Arrival'.the_type a) → MessageGives s bs small lane small (record { answer = a; state = s })
+      → (a ≡ arrival.Taken → ⊥) → MessageGives s bs small lane small (record { answer = a; state = s })
   message-left i a e k =
       let n = sym e ∙ not_taken nowhere (cell i) a k in
       record { answer = rw n; state = rw n; bytes = rw n; valid = v }
@@ -101,7 +95,7 @@ fits-taken s l k t f i n e =
 
 module _ (s : ReceiveChannelUnreliable) (v : Valid s) (id num i : ℕ) (bs : List ℕ) (t : ℕ) (small lane : List ℕ) where
   pub slice-left : (x : SliceSpot) (a : Arrival) → slice_to x a ≡ lane_spot s id num t (length small) (length lane)
-      → OneOf (1 ∷ 2 ∷ []) (tag_of Arrival'.the_type a) → SliceGives s id num i bs t small lane lane (record { answer = a; state = s })
+      → (a ≡ arrival.Taken → ⊥) → SliceGives s id num i bs t small lane lane (record { answer = a; state = s })
   unfolding slice_spot
   slice-left x a h k =
       let e = sym h ∙ not_taken nothing x a k in
@@ -147,7 +141,7 @@ module _ {s : ReceiveChannelUnreliable} {id num i : ℕ} {bs : List ℕ} {t : �
 
   -- the lane's part of the store
   pub within : l * lane_len_of s.settings + lane_len_of s.settings ≤ length lane
-  within = omega (arith, lane-within s.settings l lane_inside, fits.0.lane-Room)
+  within = omega (arith, lane-within s.settings l lane_inside, fits.0.lane_room)
 
   -- the constructor that the code has, from what is stored there
   module _ (d k : SliceConstructor) (ek : k ≡ c.start_of (get_or s.constructors l d) b id num) where
@@ -180,7 +174,7 @@ module _ {s : ReceiveChannelUnreliable} {id num i : ℕ} {bs : List ℕ} {t : �
           lane-spot s x.valid id num i bs t small lane l b x.spot ∙ rw (← started, w.0, w.1) in
           record { answer = rw spot; state = rw spot; bytes = rw spot (rw w.0 at stored); valid = x.valid }
 
-      module _ (w : OneOf (0 ∷ 1 ∷ []) (tag_of Collect'.the_type r.answer)) where
+      module _ (w : (e : Refusal) → r.answer ≡ collect.Refused e → ⊥) where
         fine : eqb (piece_refusal s k i (length bs)) 0 ≡ true
         fine = rw told-so at (piece-good k i bs lane (l * lane_len_of s.settings) m room part r g w)
 
@@ -258,10 +252,10 @@ module _ (s : ReceiveChannelUnreliable) where
 -- the part that a look shows
 
 module _ (w : Waiting) (small lane : List ℕ) where
-  pub no_part : (a : Look) → look_of a ≡ w → OneOf (1 ∷ 2 ∷ []) (tag_of Look'.the_type a) → [] ≡ part_at w small lane
+  pub no_part : (a : Look) → look_of a ≡ w → ((store : Store) (place len : ℕ) → a ≡ look.Message store place len → ⊥) → [] ≡ part_at w small lane
   no_part a e k = empty a k ∙ ap (λ (x : Waiting). part_at x small lane) e where
-    empty : (a : Look) → OneOf (1 ∷ 2 ∷ []) (tag_of Look'.the_type a) → [] ≡ part_at (look_of a) small lane
-    empty (look.Message store place len) k = ⊎_elim (λ e. absurd (omega arith)) (λ e. absurd (omega arith)) k
+    empty : (a : Look) → ((store : Store) (place len : ℕ) → a ≡ look.Message store place len → ⊥) → [] ≡ part_at (look_of a) small lane
+    empty (look.Message store place len) k = absurd (k store place len refl)
     empty look.Nothing k = refl
     empty (look.Refused e) k = refl
 

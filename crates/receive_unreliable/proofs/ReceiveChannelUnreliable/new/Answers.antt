@@ -1,0 +1,6 @@
+-- `ReceiveChannelUnreliable::new` meets its contract: the settings are settled, and what is made is valid. Assumes nothing.
+use Rattle.receive_unreliable.proofs.Gives.{made}
+use Rattle.receive_unreliable.proofs.ReceiveChannelUnreliable.new.Goals as goal
+
+pub returns : goal.returns
+returns c = made _ _ _ c.settle-settled.ensures c.empty-state.ensures

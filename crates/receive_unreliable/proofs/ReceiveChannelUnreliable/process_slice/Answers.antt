@@ -1,0 +1,60 @@
+-- `ReceiveChannelUnreliable::process_slice` meets its contract: its lane's constructor is given the piece. Assumes nothing.
+use mathlib.Core.Path.{refl}
+use native.Mathlib.Omega.{arith}
+use Rattle.words.proofs.Tables.{part-size}
+use Rattle.channel.proofs.Good.{lane-end}
+use Rattle.receive_unreliable.proofs.Gives.{InLane, lane-told, slice-left, lane_inside, lane_low, within, start_fits, slice-refused, taken-fits, slice_taken}
+use Rattle.receive_unreliable.proofs.ReceiveChannelUnreliable.process_slice.Goals as goal
+use Rattle.receive_unreliable.proofs.ReceiveChannelUnreliable.process_slice.Goals.{After-lane_for-place}
+
+-- the lane that the piece goes to
+in_lane : (c : After-lane_for-place) → (let a = c.args in let p = c.lane_for-place.result in
+    InLane a.self a.message_id.0 a.num_slices a.slice_index.0 a.payload.now a.current_time a.small.now a.lanes.now p.lane p.fresh)
+in_lane c =
+    record {
+      valid = c.requires;
+      spot = lane-told c.lane_for-place.result _ _ c.slice_answer-answer.result c.lane_for-place.ensures c.slice_answer-answer.ensures c.in-Taken.is;
+    }
+
+pub slice_answer-answer-requires : goal.slice_answer-answer-requires
+slice_answer-answer-requires c = (c.requires, c.locate-opened.ensures, c.lowest_free-free.ensures)
+
+pub returns-in_default : goal.returns-in_default
+returns-in_default c = slice-left _ c.requires _ _ _ _ _ _ _ _ c.slice_answer-answer.result c.slice_answer-answer.ensures c.in_default.not-Taken
+
+pub offset_bounds-self-l : goal.offset_bounds-self-l
+offset_bounds-self-l c = let h = lane_low (in_lane (goal.at.offset_bounds-self-l c).After-lane_for-place) in omega arith
+
+pub bounds-self-l : goal.bounds-self-l
+bounds-self-l c = lane_low (in_lane (goal.at.bounds-self-l c).After-lane_for-place)
+
+pub start-constructor-requires : goal.start-constructor-requires
+start-constructor-requires c = (start_fits (in_lane (goal.at.start-constructor-requires c).After-lane_for-place) _ _ refl).valid
+
+pub overflow_mul-size : goal.overflow_mul-size
+overflow_mul-size c = omega (arith, c.requires.settings.pieces-most)
+
+pub overflow_mul-start : goal.overflow_mul-start
+overflow_mul-start c =
+    let v = c.requires in
+    omega (arith, lane-end _ v.settings _ (lane_inside (in_lane (goal.at.overflow_mul-start c).After-lane_for-place)))
+
+pub overflow_add-end : goal.overflow_add-end
+overflow_add-end c =
+    let v = c.requires in
+    omega (arith, lane-end _ v.settings _ (lane_inside (in_lane (goal.at.overflow_add-end c).After-lane_for-place)))
+
+pub slice_bounds-process_slice-end : goal.slice_bounds-process_slice-end
+slice_bounds-process_slice-end c = omega (arith, within (in_lane (goal.at.slice_bounds-process_slice-end c).After-lane_for-place))
+
+pub process_slice-collected-requires : goal.process_slice-collected-requires
+process_slice-collected-requires c = (start_fits (in_lane (goal.at.process_slice-collected-requires c).After-lane_for-place) _ _ c.start-constructor.ensures).valid
+
+pub returns-in-Refused : goal.returns-in-Refused
+returns-in-Refused c = slice-refused (in_lane (goal.at.returns-in-Refused c).After-lane_for-place) _ _ c.start-constructor.ensures _ (part-size _ _) _ _ c.process_slice-collected.ensures _ c.in-Refused.is
+
+pub with_lane-state-requires : goal.with_lane-state-requires
+with_lane-state-requires c = (c.requires, taken-fits (in_lane (goal.at.with_lane-state-requires c).After-lane_for-place) _ _ c.start-constructor.ensures _ (part-size _ _) _ _ c.process_slice-collected.ensures c.in_default-answer.not-Refused)
+
+pub returns : goal.returns
+returns c = slice_taken (in_lane (goal.at.returns c).After-lane_for-place) _ _ c.start-constructor.ensures _ (part-size _ _) _ _ c.process_slice-collected.ensures c.in_default-answer.not-Refused _ c.with_lane-state.ensures
