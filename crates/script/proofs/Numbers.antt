@@ -3,55 +3,26 @@ use Prim.Native.Nat.{ℕ, suc, ◌+◌, ◌-◌, ◌*◌, ◌%◌, ◌^◌, ◌�
 use mathlib.Core.Path.{◌≡◌, refl, ap, sym, ◌∙◌}
 use mathlib.Core.Bool.{Bool, true, false}
 use mathlib.Core.List.{List, [], ◌∷◌}
-use mathlib.Core.Logic.{⊎_elim}
 use native.Mathlib.Nat.{one-mul}
 use native.Mathlib.Numerals.{add-one}
 use native.Mathlib.Omega.{arith}
 use borrow.Author.Tests.{ltb-true, ltb-false, lt-ltb, le-ltb, le-leb, lt-leb, eq-eqb, ne_eqb}
-use denote.Enum.Declared.{tag_of}
-use types.Run.{OneOf}
 use lib.Dec.{eqb, ltb, lit<}
 use lib.ListN.{length, get_or, take, drop, length-drop, drop_of_length-le}
 use lib.Seq.{drop-cons, take_all}
 use lib.Pow.{shl_exact, pow-lt}
 use Rattle.words.specs.Choice.{pick}
 use Rattle.words.specs.Lists.{all}
-use Rattle.script.specs.Numbers.{digit, value_of, below, digits_of, raised, lowered, moved, joined, power_of, number_of, extended, grown}
+use Rattle.script.specs.Numbers.{digit, value_of, below, digits_of, raised, lowered, joined, power_of, number_of, extended, grown}
 use Rattle.script.specs.Words.{sign, until}
 use Rattle.script.specs.declared.Number.{Number}
 use Rattle.script.specs.declared.Number.TheVariants.{Value, NotANumber, TooLarge}
-use Rattle.script.specs.contracts.Number.{the_type}
 
 pub below_in : (v : ℕ) → v < 2 ^ 64 → Value v ≡ below v
 below_in v h = rw (lt-ltb v (2 ^ 64) h)
 
 pub below_out : (v : ℕ) → 2 ^ 64 ≤ v → TooLarge ≡ below v
 below_out v h = rw (le-ltb v (2 ^ 64) h)
-
--- ---- one letter more
-
--- a letter that is no digit
-pub grown-low : (n : Number) (c : ℕ) → c < 48 → NotANumber ≡ grown n c
-grown-low n c h = rw (lt-leb 48 c h)
-
-pub grown-high : (n : Number) (c : ℕ) → 48 ≤ c → 57 < c → NotANumber ≡ grown n c
-grown-high n c h g = rw (le-leb 48 c h, lt-leb c 57 g)
-
--- what is no number of 64 bits stays so
-extended-not : (n : Number) (d : ℕ) → OneOf (1 ∷ 2 ∷ []) (tag_of the_type n) → n ≡ extended n d
-extended-not (Value v) d k = ⊎_elim (λ e. absurd (omega arith)) (λ e. absurd (omega arith)) k
-extended-not NotANumber d k = refl
-extended-not TooLarge d k = refl
-
-module _ (n : Number) (c : ℕ) (h : 48 ≤ c) (g : c ≤ 57) where
-  pub grown-not : OneOf (1 ∷ 2 ∷ []) (tag_of the_type n) → n ≡ grown n c
-  grown-not k = rw (le-leb 48 c h, le-leb c 57 g) (extended-not n (c - 48) k)
-
-  pub grown-over : (v : ℕ) → n ≡ Value v → 2 ^ 64 ≤ v * 10 + (c - 48) → TooLarge ≡ grown n c
-  grown-over v e l = rw (e, le-leb 48 c h, le-leb c 57 g) (below_out (v * 10 + (c - 48)) l)
-
-  pub grown-in : (v d : ℕ) → n ≡ Value v → d ≡ c - 48 → v * 10 + (c - 48) < 2 ^ 64 → Value (v * 10 + d) ≡ grown n c
-  grown-in v d e f l = rw (e, f, le-leb 48 c h, le-leb c 57 g) (below_in (v * 10 + (c - 48)) l)
 
 -- ---- DIGITS: what is left, from here, gives what the whole gives
 
@@ -166,25 +137,6 @@ module _ (k d : ℕ) where
 
     pub lower_in : d ≤ shifted k → Value (shifted k - d) ≡ lowered k d
     lower_in g = rw (le-ltb 64 k (omega arith), le-ltb (2 ^ k) d (omega (arith, shift k h)), shift k h) (below_in (2 ^ k - d) (omega (arith, pow-lt {i = k} {j = 64} (omega arith))))
-
--- ---- two DIGITS
-
-pub join-not : (minus : Bool) (k d : Number) → OneOf (0 ∷ 2 ∷ []) (tag_of the_type k) → OneOf (1 ∷ 2 ∷ []) (tag_of the_type d) → d ≡ joined minus k d
-join-not minus NotANumber d a b = ⊎_elim (λ e. absurd (omega arith)) (λ e. absurd (omega arith)) a
-join-not minus TooLarge (Value d) a b = ⊎_elim (λ e. absurd (omega arith)) (λ e. absurd (omega arith)) b
-join-not minus (Value k) (Value d) a b = ⊎_elim (λ e. absurd (omega arith)) (λ e. absurd (omega arith)) b
-join-not minus TooLarge NotANumber a b = refl
-join-not minus TooLarge TooLarge a b = refl
-join-not minus (Value k) NotANumber a b = refl
-join-not minus (Value k) TooLarge a b = refl
-
-pub join-large : (minus : Bool) (k d : Number) (y : ℕ) → OneOf (1 ∷ 2 ∷ []) (tag_of the_type k) → d ≡ Value y → OneOf (0 ∷ 2 ∷ []) (tag_of the_type k) → k ≡ joined minus k d
-join-large minus (Value k) d y a e b = ⊎_elim (λ e. absurd (omega arith)) (λ e. absurd (omega arith)) a
-join-large minus NotANumber d y a e b = refl
-join-large minus TooLarge d y a e b = rw e
-
-pub join-both : (minus b : Bool) (k d r : Number) (x y : ℕ) → k ≡ Value x → d ≡ Value y → minus ≡ b → r ≡ moved b x y → r ≡ joined minus k d
-join-both minus b k d r x y e f g h = rw (e, f, g) h
 
 -- ---- the forms
 

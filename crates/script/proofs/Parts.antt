@@ -1,11 +1,11 @@
 -- Laws of bytes as they are read: hex digits, stretches, one part set down, part after part. Assumes nothing.
 use Prim.Native.Nat.{ℕ, zero, suc, ◌+◌, ◌-◌, ◌/◌, ◌%◌, ◌^◌, ◌≤◌, ◌<◌}
 use mathlib.Core.Path.{◌≡◌, refl, ap, sym, ◌∙◌}
-use mathlib.Core.Bool.{Bool, true, false, not}
+use mathlib.Core.Bool.{Bool, true, false}
 use mathlib.Core.List.{List, [], ◌∷◌, map}
 use native.Mathlib.Numerals.{add-one}
 use native.Mathlib.Omega.{arith}
-use borrow.Author.Tests.{ltb-true, ltb-false, lt-ltb, le-ltb, leb-true, le-leb, lt-leb, eq-eqb, ne_eqb, not-true, not-false}
+use borrow.Author.Tests.{ltb-true, ltb-false, lt-ltb, le-ltb, leb-true, le-leb, lt-leb, eq-eqb, ne_eqb}
 use lib.Dec.{eqb, ltb, leb, leb-suc-suc, lit<}
 use lib.ListN.{length, get_or, set, take, drop, length-drop, length-set, drop_of_length-le}
 use lib.Seq.{drop-cons, drop-drop, take_all, get_or-take, length-take-le}
@@ -491,13 +491,6 @@ pair-letters s h e =
       rw (get_or-take 2 s 0 0 (lit< tt)) at (hex-here (take 2 s) 0 l e),
       rw (get_or-take 2 s 1 0 (lit< tt)) at (hex-next (take 2 s) 0 l e),
     )
-
--- what a test of letters told
-pub told-false : (t r : Bool) → r ≡ t → not r ≡ true → t ≡ false
-told-false t r e n = sym e ∙ not-true r n
-
-pub told-true : (t r : Bool) → r ≡ t → not r ≡ false → t ≡ true
-told-true t r e n = sym e ∙ not-false r n
 
 -- a stretch that was set down, from a byte that was read
 pub adds-stretch : (p : Spelt) (at : ℕ) (out : List ℕ) (up : Bool) (b x n : ℕ) (out' : List ℕ) (r : ℕ)
