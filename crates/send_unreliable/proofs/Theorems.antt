@@ -1,7 +1,7 @@
 -- What follows from the promises: what the usage is, that the lowest free cell and lane are taken, what a round spends, that it empties the
 -- queue, that a message or round that is not taken changes nothing, and that each call has one outcome only.
 -- That what is queued is what goes is in `Held`. Assumes nothing.
-use Prim.Native.Nat.{ℕ, ◌+◌, ◌-◌, ◌≤◌}
+use Prim.Native.Nat.{ℕ, ◌+◌, ◌≤◌}
 use mathlib.Core.Path.{◌≡◌, refl, sym, ap, ◌∙◌}
 use mathlib.Core.Bool.{Bool, true, false, not}
 use mathlib.Core.List.{List, [], ◌∷◌, map}
