@@ -1,4 +1,5 @@
 -- `session_wire::get` meets its contract: by which call it is. Assumes nothing.
+use native.Mathlib.Omega.{arith}
 use borrow.Author.Tests.{ne_eqb}
 use Rattle.session_wire.specs.Wire.{get_said}
 use Rattle.session_wire.proofs.get.Goals as goal
@@ -21,4 +22,4 @@ returns-in-14 c = rw (c.in-14.is, ← c.size-place.ensures) c.got_bytes.ensures
 
 pub returns-in_default : goal.returns-in_default
 unfolding get_said
-returns-in_default c = let r = c.in_default.in_default-own.rest in simp (ne_eqb _ _ r.0.0.0.1, ne_eqb _ _ r.0.0.1, ne_eqb _ _ r.0.1, ne_eqb _ _ r.1) (rw c.word.ensures at c.length.ensures)
+returns-in_default c = simp (ne_eqb c.args.k 11 (λ e. absurd (omega arith)), ne_eqb c.args.k 12 (λ e. absurd (omega arith)), ne_eqb c.args.k 13 (λ e. absurd (omega arith)), ne_eqb c.args.k 14 (λ e. absurd (omega arith))) (rw c.word.ensures at c.length.ensures)

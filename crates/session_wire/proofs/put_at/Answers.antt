@@ -1,4 +1,5 @@
 -- `session_wire::put_at` meets its contract: by which call it is. Assumes nothing.
+use native.Mathlib.Omega.{arith}
 use borrow.Author.Tests.{ne_eqb}
 use Rattle.session_wire.specs.Wire.{put_answer, put_letters}
 use Rattle.session_wire.proofs.put_at.Goals as goal
@@ -13,4 +14,4 @@ returns-in-4 c = rw c.in-4.is c.put_varint.ensures
 
 pub returns-in_default : goal.returns-in_default
 unfolding put_answer put_letters
-returns-in_default c = let r = c.in_default.in_default-own.rest in simp (ne_eqb _ _ r.0.1, ne_eqb _ _ r.1) c.put_bytes_with_varint_length.ensures
+returns-in_default c = simp (ne_eqb c.args.k 3 (λ e. absurd (omega arith)), ne_eqb c.args.k 4 (λ e. absurd (omega arith))) c.put_bytes_with_varint_length.ensures
