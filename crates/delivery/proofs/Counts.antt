@@ -17,7 +17,7 @@ use Rattle.words.proofs.Tables.{by-test}
 use Rattle.channel.proofs.Held.{Here}
 use Rattle.slice_constructor.specs.Collect as c
 use Rattle.slice_constructor.proofs.Valid as cv
-use Rattle.receive_reliable.specs.Receive.{cell_of, lane_of, in_cell_of, in_lane_of, is_held, ignores, constructor_at, MessageSpot, message_state, with_message_of, SliceSpot, opened, slice_state, with_lane_of, without_cell, without_lane, after_take, Valid}
+use Rattle.receive_reliable.specs.Receive.{cell_of, lane_of, in_cell_of, in_lane_of, is_held, ignores, constructor_at, MessageSpot, message_state, with_message_of, SliceSpot, slice_state, with_lane_of, without_cell, without_lane, after_take, Valid}
 use Rattle.receive_reliable.specs.declared.ReceiveChannelReliable.{ReceiveChannelReliable}
 use Rattle.receive_reliable.proofs.Valid.{charge-most, lane-used}
 use Rattle.receive_reliable.proofs.Spots.{lane_here, spot-cell, open-fits, fresh-fits}

@@ -18,7 +18,7 @@ use Rattle.words.proofs.Splice.{length-splice}
 use Rattle.words.proofs.Tables.{by-test, by_place, pick-cases, none-held, part-before, part-after, part-here}
 use Rattle.channel.specs.Settings.{Good, lane_len_of, stores_hold_of}
 use Rattle.channel.specs.declared.Settings.{Settings}
-use Rattle.channel.proofs.Good.{good, lane-within}
+use Rattle.channel.proofs.Good.{lane-within}
 use Rattle.channel.proofs.Held.{Here}
 use Rattle.slice_constructor.specs.declared.SliceConstructor.{SliceConstructor}
 use Rattle.slice_constructor.specs.Collect as c
