@@ -1,11 +1,10 @@
 -- A loop of calls: what every turn keeps, for any state and any step. Assumes nothing.
 use Prim.Native.Nat.{ℕ, ◌+◌, ◌≤◌, ◌<◌}
 use mathlib.Core.Path.{◌≡◌, refl}
-use mathlib.Core.List.{List}
 use native.Mathlib.Omega.{arith}
 use native.Mathlib.Numerals.{add-one}
 use lib.ListN.{length}
-use Rattle.bench_calls.specs.Times.{Times, none, more, Left, Held, Filled}
+use Rattle.bench_calls.specs.Times.{Times, none, more, Left, Held}
 
 -- i turns of n went from a to b
 pub record Turns {S : Type 0} (Keeps : S → Type 0) (Step : ℕ → S → S → Type 0) (n : ℕ) (a b : S) (i : ℕ) : Type 0 where

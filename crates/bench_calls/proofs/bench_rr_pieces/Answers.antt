@@ -1,0 +1,17 @@
+-- `bench_calls::bench_rr_pieces` meets its contract, by those of what it calls. Assumes nothing.
+use Rattle.bench_calls.proofs.bench_rr_pieces.Goals as goal
+
+pub rr_collected-held-requires : goal.rr_collected-held-requires
+rr_collected-held-requires c = tt
+
+pub rr_taken-state-requires : goal.rr_taken-state-requires
+rr_taken-state-requires c = c.rr_collected-held.ensures.1
+
+pub memory_usage_bytes-requires : goal.memory_usage_bytes-requires
+memory_usage_bytes-requires c = c.rr_taken-state.ensures.1
+
+pub returns : goal.returns
+returns c =
+    let f = c.rr_collected-held in
+    let d = c.rr_taken-state in
+    record { full = f.result; rest = d.result; filled = f.ensures.0; drained = d.ensures.0; answer = c.memory_usage_bytes.ensures }

@@ -1,0 +1,13 @@
+-- `bench_calls::rr_collected` meets its contract: each turn is one piece more in the receiver. Assumes nothing.
+use Prim.Native.Nat.{◌-◌}
+use Rattle.receive_reliable.specs.Receive.{Valid}
+use Rattle.bench_calls.specs.Times.{held}
+use Rattle.bench_calls.specs.Ends.{RrCollects}
+use Rattle.bench_calls.proofs.Laws.{Turns, Keeps}
+use Rattle.bench_calls.proofs.rr_collected.Given as goal
+
+abbrev pub invariant-loop-i : goal.invariant-loop-i
+invariant-loop-i l = Turns (Keeps Valid (held l.initial.state l.small l.initial.lanes)) (RrCollects l.count l.payload) l.count (held l.initial.state l.small l.initial.lanes) (held l.state l.small l.lanes) l.i
+
+abbrev pub decreases-loop-i : goal.decreases-loop-i
+decreases-loop-i l = l.count - l.i
