@@ -1,11 +1,11 @@
 -- A memory of which a part was lent, when the part is back. Assumes nothing.
-use Prim.Native.Nat.{ℕ, ◌+◌, ◌-◌, ◌≤◌, min}
+use Prim.Native.Nat.{ℕ, ◌+◌, ◌-◌, min}
 use mathlib.Core.Path.{◌≡◌, refl, sym, ap, ◌∙◌}
 use mathlib.Core.Bool.{Bool, true, false}
 use mathlib.Core.List.{List}
 use native.Mathlib.Omega.{arith}
 use borrow.Author.Tests.{leb-true, leb-false}
-use borrow.Rule.Slice.PartMut.{mid_of, put_mid, mid_len, take_put, drop_put}
+use borrow.Rule.Slice.PartMut.{mid_of, put_mid, mid_len, same_len_mid, take_put, drop_put}
 use lib.Dec.{leb}
 use lib.ListN.{length, take, drop, drop_of_length-le}
 use lib.Seq.{take_all}
@@ -29,13 +29,14 @@ module _ (from n : ℕ) (xs ys : List ℕ) (p : Span) (g : SpanGives from n (len
   abbrev pub back : List ℕ
   back = put_mid p.start (p.end - p.start) xs ys
 
-  pub keeps : length ys ≡ length (mid_of p.start (p.end - p.start) xs) → length back ≡ length xs → Keeps from n xs back
+  pub keeps : length ys ≡ length (mid_of p.start (p.end - p.start) xs) → Keeps from n xs back
   unfolding Keeps
-  keeps l same = (
-    sym (take_by from p.start back (g.starts ∙ ap (λ (k : ℕ). min from k) (sym same)) _ refl)
-        ∙ take_put p.start (p.end - p.start) xs ys (omega arith)
-        ∙ take_by from p.start xs g.starts _ refl,
-    sym (drop-by (from + n) p.end back (g.ends ∙ ap (λ (k : ℕ). min (from + n) k) (sym same)) _ refl)
-        ∙ drop_put p.start p.end xs ys g.ordered g.inside (l ∙ mid_len p.start p.end xs g.inside)
-        ∙ drop-by (from + n) p.end xs g.ends _ refl,
-  )
+  keeps l =
+      let same = same_len_mid p.start (p.end - p.start) xs ys l in (
+        sym (take_by from p.start back (g.starts ∙ ap (λ (k : ℕ). min from k) (sym same)) _ refl)
+            ∙ take_put p.start (p.end - p.start) xs ys (omega arith)
+            ∙ take_by from p.start xs g.starts _ refl,
+        sym (drop-by (from + n) p.end back (g.ends ∙ ap (λ (k : ℕ). min (from + n) k) (sym same)) _ refl)
+            ∙ drop_put p.start p.end xs ys g.ordered g.inside (l ∙ mid_len p.start p.end xs g.inside)
+            ∙ drop-by (from + n) p.end xs g.ends _ refl,
+      )
