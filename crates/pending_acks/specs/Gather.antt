@@ -2,7 +2,7 @@
 -- missing between two. A sequence extends a range above or below, joins two, opens one, or is named already and changes nothing. Up to 64 ranges are
 -- kept; a 65th drops the lowest whole range, which may be the newcomer. A sequence at or above 2^62 gets 13.
 --
--- What a reader would check these definitions by: after adding x exactly x is named besides (`named-inserted`, proofs/Insert.antt), and ranges that rise
+-- What a reader would check these definitions by: after adding x exactly x is named besides (`only-added`, `still-named`, proofs/Ranges.antt), and ranges that rise
 -- and name the same are the same ranges (`canonical`, proofs/Canonical.antt). Assumes nothing.
 use Rattle.std.specs.Prelude.{ℕ, zero, suc, ◌+◌, ◌-◌, ◌≤◌, ◌<◌, ◌≡◌, Bool, true, false, List, [], ◌∷◌, map, length, get_or, drop, ltb, leb, eqb}
 use Rattle.words.specs.Sizes.{LIMIT}
