@@ -1,0 +1,13 @@
+pub mod Tables
+pub mod Halving
+pub mod Ranges
+pub mod Spots
+pub mod Valid
+pub mod Asking
+pub mod Adding
+pub mod Packets
+pub mod Canonical
+pub mod Running
+pub mod Reading
+pub mod Unique
+pub mod Theorems
