@@ -1,0 +1,4 @@
+pub mod Loads
+pub mod Valid
+pub mod Steps
+pub mod Theorems

@@ -1,0 +1,4 @@
+pub mod Rule
+pub mod Window
+pub mod Steps
+pub mod History

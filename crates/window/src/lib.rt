@@ -1,0 +1,249 @@
+#![tactic(auto)]
+// When a message may be queued. A receiver has so many slots, so many lanes and so much memory. A sender that queues
+// more than they hold, counted from its oldest unacknowledged message, may find them full of later messages when that
+// one arrives, and so for ever. A window is kept beside the sender, and says when to wait.
+ghost use Rattle.std.specs.Prelude.{◌≡◌, ◌≤◌, length, take, drop};
+ghost use Rattle.channel.specs.Settings.{Good};
+ghost use Rattle.window.specs.Rule.{load_of};
+ghost use Rattle.window.specs.Window.{ROWS, table, new_of, kept, Valid, MadeGives, room_number, queue_refusal, QueuedGives};
+ghost use Rattle.window.specs.Steps.{one_of, Bounded, plus, Holds, minus, step_of, judged, spot_of};
+
+use channel::{Settings, Setup};
+use words::{LANES, LIMIT, MessageId, Refusal, SLICE_SIZE, SLOTS};
+
+// Most messages that a receiver has room for.
+const ROWS: usize = SLOTS + LANES;
+
+// What messages may take of a receiver: slots, lanes and memory.
+#[derive(Clone, Copy)]
+pub struct Load {
+    small: usize,
+    sliced: usize,
+    charge: usize,
+}
+
+// The lengths of the messages from `first` on: `count` of them at the front of the table, and 0 past them. `load` is
+// what they may take.
+#[derive(Clone, Copy)]
+pub struct Window {
+    settings: Settings,
+    first: u64,
+    count: usize,
+    lens: [u32; ROWS],
+    load: Load,
+}
+
+#[derive(Clone, Copy)]
+pub struct Made {
+    pub answer: Setup,
+    pub state: Window,
+}
+
+// Whether there is room for a message. Its sender has to wait where the receiver might have to refuse one: 7 for
+// memory, 11 for a slot or a lane. A message above the receiver's piece limit never goes (12), and 13 tells of an
+// oldest message that can't be the oldest.
+#[derive(Clone, Copy)]
+pub enum Room {
+    Free,
+    Refused(Refusal),
+}
+
+#[derive(Clone, Copy)]
+pub struct Counted {
+    pub answer: Room,
+    pub state: Window,
+}
+
+// What the rule says of a message: how many of those kept are no longer under way, and what the others may take
+// together with it.
+#[derive(Clone, Copy)]
+enum Step {
+    Goes(usize, Load),
+    Waits(Refusal),
+}
+
+impl Load {
+    // What one message may take: a small one its length, a sliced one 1,200 for each piece.
+    fn of(len: u32) -> Load
+        ensures { result ≡ one_of len }
+    {
+        let n = len as usize;
+        if n <= SLICE_SIZE {
+            return Load {
+                small: 1,
+                sliced: 0,
+                charge: n,
+            };
+        }
+        Load {
+            small: 0,
+            sliced: 1,
+            charge: SLICE_SIZE * ((n + (SLICE_SIZE - 1)) / SLICE_SIZE),
+        }
+    }
+
+    fn plus(self, other: Load) -> Load
+        requires { Bounded self × Bounded other }
+        ensures { result ≡ plus self other }
+    {
+        Load {
+            small: self.small + other.small,
+            sliced: self.sliced + other.sliced,
+            charge: self.charge + other.charge,
+        }
+    }
+
+    fn minus(self, other: Load) -> Load
+        requires { Holds self other }
+        ensures { result ≡ minus self other }
+    {
+        Load {
+            small: self.small - other.small,
+            sliced: self.sliced - other.sliced,
+            charge: self.charge - other.charge,
+        }
+    }
+}
+
+// Whether a receiver of these settings has room for a message of this length beside others.
+fn judge(settings: Settings, gone: usize, others: Load, len: usize) -> Step
+    requires { Good settings × Bounded others }
+    ensures { step_of result ≡ judged settings gone (plus others (one_of len)) len }
+{
+    if settings.pieces * SLICE_SIZE < len {
+        return Step::Waits(Refusal::TooLong);
+    }
+    let all = others.plus(Load::of(len as u32));
+    if settings.max_memory_usage_bytes < all.charge {
+        return Step::Waits(Refusal::ReliableChannelMaxMemoryReached);
+    }
+    if settings.slots < all.small {
+        return Step::Waits(Refusal::TableFull);
+    }
+    if settings.lanes < all.sliced {
+        return Step::Waits(Refusal::TableFull);
+    }
+    Step::Goes(gone, all)
+}
+
+// The lengths from one place up to another, at the front of a table.
+fn moved_up(lens: [u32; ROWS], from: usize, to: usize) -> [u32; ROWS]
+    requires { (from ≤ to) × (to ≤ ROWS) × (length lens ≡ ROWS) }
+    ensures { result ≡ table (drop from (take to lens)) }
+{
+    let mut moved = [0; ROWS];
+    let n = to - from;
+    let mut i = 0;
+    while i < n {
+        moved[i] = lens[from + i];
+        i += 1;
+    }
+    moved
+}
+
+impl Window {
+    // A window of no messages, over a receiver of these settings. Where they are refused it has the least ones.
+    pub fn new(settings: Settings) -> Made
+        ensures { MadeGives settings result }
+    {
+        let settled = settings.settle();
+        let answer = settled.answer;
+        let used = settled.settings;
+        let state = Window::empty(used);
+        Made { answer, state }
+    }
+
+    // Whether a message of this length may be queued now, where `oldest` is the sender's oldest unacknowledged one.
+    pub fn can_queue(self, oldest: MessageId, len: usize) -> Room
+        requires { Valid self }
+        ensures { room_number result ≡ queue_refusal self oldest.0 len }
+    {
+        let step = self.step(oldest.0, len);
+        match step {
+            Step::Goes(_, _) => Room::Free,
+            Step::Waits(e) => Room::Refused(e),
+        }
+    }
+
+    // Counts a message that was queued. Where it might not be, it isn't counted.
+    pub fn queued(mut self, oldest: MessageId, len: usize) -> Counted
+        requires { Valid self }
+        ensures { QueuedGives self oldest.0 len result }
+    {
+        let step = self.step(oldest.0, len);
+        let mut answer = Room::Free;
+        match step {
+            Step::Waits(e) => {
+                answer = Room::Refused(e);
+            }
+            Step::Goes(gone, load) => {
+                let count = self.count;
+                let left = count - gone;
+                let before = self.lens;
+                let mut lens = moved_up(before, gone, count);
+                lens[left] = len as u32;
+                self.first = oldest.0;
+                self.count = left + 1;
+                self.lens = lens;
+                self.load = load;
+            }
+        }
+        Counted {
+            answer,
+            state: self,
+        }
+    }
+
+    fn empty(settings: Settings) -> Window
+        ensures { result ≡ new_of settings }
+    {
+        Window {
+            settings,
+            first: 0,
+            count: 0,
+            lens: [0; ROWS],
+            load: Load {
+                small: 0,
+                sliced: 0,
+                charge: 0,
+            },
+        }
+    }
+
+    // What the rule says of a message. Counting starts at the oldest unacknowledged one.
+    fn step(self, oldest: u64, len: usize) -> Step
+        requires { Valid self }
+        ensures { step_of result ≡ spot_of self oldest len }
+    {
+        let first = self.first;
+        let next = first + self.count as u64;
+        if oldest < first {
+            return Step::Waits(Refusal::BadNumber);
+        }
+        if next < oldest {
+            return Step::Waits(Refusal::BadNumber);
+        }
+        if LIMIT <= next {
+            return Step::Waits(Refusal::BadNumber);
+        }
+        let gone = (oldest - first) as usize;
+        let others = self.load_without(gone);
+        let settings = self.settings;
+        judge(settings, gone, others, len)
+    }
+
+    // What the messages that are kept may take, without the first ones.
+    fn load_without(self, gone: usize) -> Load
+        requires { Valid self × (gone ≤ self.count) }
+        ensures { result ≡ load_of (drop gone (kept self)) }
+    {
+        let mut load = self.load;
+        let mut i = 0;
+        while i < gone {
+            let len = self.lens[i];
+            load = load.minus(Load::of(len));
+            i += 1;
+        }
+        load
+    }
+}
