@@ -140,7 +140,7 @@ impl Lines {
     }
 
     // Reads more behind what was not told, which goes to the front of the buffer. Where nothing comes,
-    // or reading fails, the input has ended.
+    // or reading fails before a byte came, the input has ended.
     pub fn refill(self, fd: i32, buf: &mut [u8]) -> Lines
         ensures { Refills buf.old self buf.new result }
     {
