@@ -10,7 +10,7 @@ use Rattle.send_unreliable.specs.declared.Round.{Round}
 use Rattle.send_unreliable.specs.declared.SendChannelUnreliable.{SendChannelUnreliable}
 use Rattle.bench_calls.specs.Times.{Times, none, more, Left, Held, held, Filled, UsageLeft}
 use Rattle.bench_calls.specs.Packets.{used_of, ReadGives}
-use Rattle.bench_calls.specs.Ends.{ALLOWANCE, packets_of_of, SrNew, SrQueues, SrAcks, SrAcksPiece, sr_usage, SrMessages, SrPieces, Sending, sending, SrSends, SrSent, SrRounds, SuNew, SuQueues, SuUsage, SuRound, RrNew, RrHears, RrCollects, RrTakes, rr_usage, RrMessages, RrPieces, RuNew, RuHears, RuCollects, RuTakes, ru_usage, RuMessages, RuPieces}
+use Rattle.bench_calls.specs.Ends.{ALLOWANCE, packets_said, SrNew, SrQueues, SrAcks, SrAcksPiece, sr_usage, SrMessages, SrPieces, Sending, sending, SrSends, SrSent, SrRounds, SuNew, SuQueues, SuUsage, SuRound, RrNew, RrHears, RrCollects, RrTakes, rr_usage, RrMessages, RrPieces, RuNew, RuHears, RuCollects, RuTakes, ru_usage, RuMessages, RuPieces}
 
 abbrev One : {S : Type 0} → (S → Type 0) → Type 0
 One {S} P = (s t : S) → P s → P t → s ≡ t
@@ -99,7 +99,7 @@ sr-sends small lanes k a b c x y i =
       state = both (x.state ∙ x.gives.state) (y.state ∙ y.gives.state) i;
       out = both x.gives.went.bytes y.gives.went.bytes i;
       table = both x.gives.went.entries y.gives.went.entries i;
-      packets = both (x.packets ∙ ap packets_of_of x.gives.went.answer) (y.packets ∙ ap packets_of_of y.gives.went.answer) i;
+      packets = both (x.packets ∙ ap packets_said x.gives.went.answer) (y.packets ∙ ap packets_said y.gives.went.answer) i;
     }
 
 -- ---- the promises: the same answer, and the same in all memory that was lent
@@ -149,13 +149,13 @@ sr-round n rounds msg small lanes out table sm la ou ta sm' la' ou' ta' r q x y 
     (ap (λ (e : Sending). e.packets) e, ap (λ (e : Held SendChannelReliable). e.small) h, ap (λ (e : Held SendChannelReliable). e.lanes) h, ap (λ (e : Sending). e.out) e, ap (λ (e : Sending). e.table) e)
 
 abbrev Rounded : List ℕ → List ℕ → List ℕ → List ℕ → ℕ → Held SendChannelUnreliable → Type 0
-Rounded out table ou ta r e = (o : Round) × RoundGives e.state (record { seq = 0; allowance = ALLOWANCE; small = e.small; lanes = e.lanes }) out table ou ta o × (r ≡ packets_of_of (went_of o.answer))
+Rounded out table ou ta r e = (o : Round) × RoundGives e.state (record { seq = 0; allowance = ALLOWANCE; small = e.small; lanes = e.lanes }) out table ou ta o × (r ≡ packets_said (went_of o.answer))
 
 pub su-round : (n : ℕ) (msg : List ℕ) → OneRound (SuRound n msg)
 su-round n msg small lanes out table sm la ou ta sm' la' ou' ta' r q x y =
     let h = filled su-new (su-queues msg) n small lanes sm la sm' la' x.filled y.filled in
     let z = subst (Rounded out table ou' ta' q) (sym h) (y.round, y.gives, y.answer) in (
-      both (x.answer ∙ ap packets_of_of x.gives.went.answer) (z.2 ∙ ap packets_of_of z.1.went.answer),
+      both (x.answer ∙ ap packets_said x.gives.went.answer) (z.2 ∙ ap packets_said z.1.went.answer),
       ap (λ (e : Held SendChannelUnreliable). e.small) h,
       ap (λ (e : Held SendChannelUnreliable). e.lanes) h,
       both x.gives.went.bytes z.1.went.bytes,

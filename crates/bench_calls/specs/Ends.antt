@@ -38,9 +38,9 @@ abbrev pub ALLOWANCE : ℕ
 ALLOWANCE = 1000000
 
 -- how many packets a round had, 0 for a refusal
-abbrev pub packets_of_of : Outcome → ℕ
-packets_of_of (sent w) = w.packets
-packets_of_of (refused e) = 0
+abbrev pub packets_said : Outcome → ℕ
+packets_said (sent w) = w.packets
+packets_said (refused e) = 0
 
 -- ---- the reliable sender
 
@@ -87,7 +87,7 @@ pub record SrSends (small lanes : List ℕ) (k : ℕ) (a b : Sending) : Type 0 w
   pub gives : sr_round.RoundGives a.state (record { seq = 0; now = 0; allowance = ALLOWANCE; small = small; lanes = lanes })
       a.out a.table b.out b.table round
   pub state : b.state ≡ round.state
-  pub packets : b.packets ≡ packets_of_of (went_of round.answer)
+  pub packets : b.packets ≡ packets_said (went_of round.answer)
 
 -- so many rounds: the last of them had r packets, 0 where there was none
 pub record SrSent (small lanes : List ℕ) (rounds : ℕ) (s : SendChannelReliable) (out table out' table' : List ℕ) (r : ℕ) : Type 0 where
@@ -120,7 +120,7 @@ pub record SuRound (n : ℕ) (msg small lanes out table small' lanes' out' table
   pub filled : Filled SuNew (SuQueues msg) n small lanes small' lanes' full
   pub round : su_rounded.Round
   pub gives : su_round.RoundGives full (record { seq = 0; allowance = ALLOWANCE; small = small'; lanes = lanes' }) out table out' table' round
-  pub answer : r ≡ packets_of_of (went_of round.answer)
+  pub answer : r ≡ packets_said (went_of round.answer)
 
 -- ---- the reliable receiver
 

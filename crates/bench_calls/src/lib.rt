@@ -191,7 +191,7 @@ pub extern "C" fn bench_sr_pieces(
 
 // How many packets a round had.
 fn packets_of(answer: Went) -> usize
-    ensures { result ≡ ends.packets_of_of (went_of answer) }
+    ensures { result ≡ ends.packets_said (went_of answer) }
 {
     let Went::Sent(written) = answer else {
         return 0;

@@ -32,16 +32,16 @@ rest NotANumber t = NotANumber
 rest TooLarge t = pick (all digit t) TooLarge NotANumber
 rest (Value v) t = pick (all digit t) (below (value_of v t)) NotANumber
 
-value_of_of-le : (v : ℕ) (t : List ℕ) → v ≤ value_of v t
+value_of-le : (v : ℕ) (t : List ℕ) → v ≤ value_of v t
 unfolding value_of
-value_of_of-le v [] = omega arith
-value_of_of-le v (c ∷ t) = omega (arith, value_of_of-le (v * 10 + (c - 48)) t)
+value_of-le v [] = omega arith
+value_of-le v (c ∷ t) = omega (arith, value_of-le (v * 10 + (c - 48)) t)
 
 rest_below : (t : List ℕ) (w : ℕ) (b : Bool) → ltb w (2 ^ 64) ≡ b
     → rest (pick b (Value w) TooLarge) t ≡ pick (all digit t) (below (value_of w t)) NotANumber
 unfolding rest
 rest_below t w true e = refl
-rest_below t w false e = rw (sym (below_out (value_of w t) (omega (arith, ltb-false w (2 ^ 64) e, value_of_of-le w t))))
+rest_below t w false e = rw (sym (below_out (value_of w t) (omega (arith, ltb-false w (2 ^ 64) e, value_of-le w t))))
 
 rest-next : (n : Number) (c : ℕ) (t : List ℕ) (b : Bool) → digit c ≡ b → rest n (c ∷ t) ≡ rest (pick b (extended n (c - 48)) NotANumber) t
 unfolding rest all value_of

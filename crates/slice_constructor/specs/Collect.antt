@@ -103,8 +103,8 @@ lane_charge c = pick (is_whole c) (whole_len c) (SLICE_SIZE * c.num_slices)
 abbrev pub kept : SliceConstructor → SliceConstructor
 kept c = pick (is_whole c) (blank_of 0 0) c
 
-abbrev pub kept_of_of : SliceConstructor → Kept
-kept_of_of c = record { whole = is_whole c; len = lane_charge c; constructor = kept c }
+abbrev pub kept_of : SliceConstructor → Kept
+kept_of c = record { whole = is_whole c; len = lane_charge c; constructor = kept c }
 
 -- the one that a piece goes to: for a fresh message one of its own
 abbrev pub start_of : SliceConstructor → Bool → ℕ → ℕ → SliceConstructor

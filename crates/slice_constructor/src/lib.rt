@@ -2,7 +2,7 @@
 // One reassembly: which pieces of a message are here, where each goes in the lane that is lent for
 // it, and when the message is whole. Pieces come in any order, and may repeat.
 ghost use Rattle.std.specs.Prelude.{◌≡◌, ◌<◌, length};
-ghost use Rattle.slice_constructor.specs.Collect.{Valid, blank_of, BeginGives, start_of, kept_of_of, sized, collect_refusal, taken, lane_taken, collect_of, answer_of, CollectGives};
+ghost use Rattle.slice_constructor.specs.Collect.{Valid, blank_of, BeginGives, start_of, kept_of, sized, collect_refusal, taken, lane_taken, collect_of, answer_of, CollectGives};
 ghost use Rattle.slice_constructor.specs.Steps.{judged_number};
 
 use words::{LIMIT, MessageId, PIECES, Refusal, SLICE_SIZE, SliceIndex};
@@ -138,7 +138,7 @@ impl SliceConstructor {
     // What a lane keeps of it.
     pub fn keep(self) -> Kept
         requires { Valid self × (0 < self.num_slices) }
-        ensures { result ≡ kept_of_of self }
+        ensures { result ≡ kept_of self }
     {
         if self.num_received_slices == self.num_slices {
             let constructor = SliceConstructor::blank();

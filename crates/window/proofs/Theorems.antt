@@ -19,7 +19,7 @@ use Rattle.channel.specs.declared.Setup.{Setup}
 use Rattle.channel.proofs.Good.{good}
 use Rattle.channel.proofs.Unique.{one-setup}
 use Rattle.window.specs.Rule.{load_of}
-use Rattle.window.specs.Window.{window_of_of, since, next_of, Within, Valid, MadeGives, refusal_in, queue_refusal, room_number, counted, after_queued, QueuedGives}
+use Rattle.window.specs.Window.{window_of, since, next_of, Within, Valid, MadeGives, refusal_in, queue_refusal, room_number, counted, after_queued, QueuedGives}
 use Rattle.window.specs.History.{Call, Past, refusal_after, counting, past_from, past, window_from, Exact}
 use Rattle.window.specs.declared.Window.{Window}
 use Rattle.window.specs.declared.Made.{Made}
@@ -31,7 +31,7 @@ use Rattle.window.proofs.Valid.{kept_of, within-rows, valid-new, allowed, valid-
 -- ---- the answers are those of the rule: a window keeps the lengths of the messages from the oldest unacknowledged one on, of those that were named
 
 abbrev window_at : Settings → Past → Window
-window_at s p = window_of_of s p.oldest (drop p.oldest p.lens)
+window_at s p = window_of s p.oldest (drop p.oldest p.lens)
 
 record Kept (s : Settings) (p : Past) : Type 0 where
   good : Good s
@@ -41,18 +41,18 @@ record Kept (s : Settings) (p : Past) : Type 0 where
 
 module _ (s : Settings) (p : Past) (k : Kept s p) where
   since-is : (oldest : ℕ) → p.oldest ≤ oldest → since (window_at s p) oldest ≡ drop oldest p.lens
-  unfolding window_of_of
+  unfolding window_of
   since-is oldest o =
       let e : p.oldest + (oldest - p.oldest) ≡ oldest = omega arith in
       let h = kept_of s p.oldest (drop p.oldest p.lens) (within-rows s k.good (drop p.oldest p.lens) k.within) in
       ap (drop (oldest - p.oldest)) h ∙ drop-drop (oldest - p.oldest) p.oldest p.lens ∙ ap (λ (n : ℕ). drop n p.lens) e
 
   next-is : next_of (window_at s p) ≡ length p.lens
-  unfolding window_of_of
+  unfolding window_of
   next-is = omega (arith, length-drop p.oldest p.lens, k.low)
 
   same_answer : (oldest n : ℕ) → queue_refusal (window_at s p) oldest n ≡ refusal_after s p oldest n
-  unfolding queue_refusal window_of_of
+  unfolding queue_refusal window_of
   same_answer oldest n =
       by-test (ltb oldest p.oldest)
       (λ e. rw e)
@@ -72,17 +72,17 @@ module _ (s : Settings) (p : Past) (k : Kept s p) where
 
     by_answer : (t : Bool) → eqb (refusal_after s p c.oldest c.len) 0 ≡ t
         → (pick t (counted (window_at s p) c.oldest c.len) (window_at s p) ≡ window_at s (pick t more p)) × Kept s (pick t more p)
-    unfolding window_of_of
+    unfolding window_of
     by_answer true e =
         let a = allowed (window_at s p) c.oldest c.len (same_answer c.oldest c.len ∙ eqb-true _ _ e) in
         let h : c.oldest ≤ length p.lens = omega (arith, a.high, next-is) in
         let q = since-more h a.low in (
-          ap (window_of_of s c.oldest) q,
+          ap (window_of s c.oldest) q,
           record {
             good = k.good;
             low = omega (arith, length-append p.lens (c.len ∷ []));
             within = subst (λ (lens : List ℕ). Within s (load_of lens)) q a.within;
-            valid = subst (λ (lens : List ℕ). Valid (window_of_of s c.oldest lens)) q (valid-counted (window_at s p) k.valid c.oldest c.len a);
+            valid = subst (λ (lens : List ℕ). Valid (window_of s c.oldest lens)) q (valid-counted (window_at s p) k.valid c.oldest c.len a);
           },
         )
     by_answer false e = (refl, k)

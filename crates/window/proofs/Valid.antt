@@ -18,7 +18,7 @@ use Rattle.channel.specs.Settings.{Good, SettledGives}
 use Rattle.channel.specs.declared.Settings.{Settings}
 use Rattle.channel.specs.declared.Settled.{Settled}
 use Rattle.window.specs.Rule.{load_of, rule_tests}
-use Rattle.window.specs.Window.{ROWS, table, window_of_of, new_of, kept, since, next_of, Within, Valid, MadeGives, queue_refusal, counted}
+use Rattle.window.specs.Window.{ROWS, table, window_of, new_of, kept, since, next_of, Within, Valid, MadeGives, queue_refusal, counted}
 use Rattle.window.specs.Steps.{one_of, plus}
 use Rattle.window.specs.declared.Window.{Window}
 use Rattle.window.proofs.Loads.{load_cons, load-length}
@@ -35,15 +35,15 @@ take-table lens h =
 
 -- ---- a window by what it keeps
 
-pub kept_of : (s : Settings) (first : ℕ) (lens : List ℕ) → length lens ≤ ROWS → kept (window_of_of s first lens) ≡ lens
-unfolding window_of_of
+pub kept_of : (s : Settings) (first : ℕ) (lens : List ℕ) → length lens ≤ ROWS → kept (window_of s first lens) ≡ lens
+unfolding window_of
 kept_of s first lens h = take-table lens h
 
-pub valid-of : (s : Settings) (first : ℕ) (lens : List ℕ) → Good s → Within s (load_of lens) → first + length lens ≤ LIMIT → Valid (window_of_of s first lens)
-unfolding window_of_of
+pub valid-of : (s : Settings) (first : ℕ) (lens : List ℕ) → Good s → Within s (load_of lens) → first + length lens ≤ LIMIT → Valid (window_of s first lens)
+unfolding window_of
 valid-of s first lens g w h =
     let e = kept_of s first lens (within-rows s g lens w) in
-    record { settings = g; shape = ap (window_of_of s first) (sym e); within = rw e w; next-most = h }
+    record { settings = g; shape = ap (window_of s first) (sym e); within = rw e w; next-most = h }
 
 pub valid-new : (s : Settings) → Good s → Valid (new_of s)
 unfolding load_of total
@@ -53,15 +53,15 @@ valid-new s g = valid-of s 0 [] g (record { small = omega arith; sliced = omega 
 
 module _ (w : Window) (v : Valid w) where
   pub lens-are : w.lens ≡ table (kept w)
-  unfolding window_of_of
+  unfolding window_of
   lens-are = ap (λ (x : Window). x.lens) v.shape
 
   pub load_is : w.load ≡ load_of (kept w)
-  unfolding window_of_of
+  unfolding window_of
   load_is = ap (λ (x : Window). x.load) v.shape
 
   pub count-is : w.count ≡ length (kept w)
-  unfolding window_of_of
+  unfolding window_of
   count-is = ap (λ (x : Window). x.count) v.shape
 
   pub count_most : w.count ≤ ROWS
@@ -139,7 +139,7 @@ module _ (w : Window) (v : Valid w) (oldest n : ℕ) (a : Allowed w oldest n) wh
         load = load_of (since w oldest ++ (n ∷ []));
       }
       ≡ counted w oldest n
-  unfolding window_of_of
+  unfolding window_of
   counted_is lens e =
       let t : set lens (w.count - (oldest - w.first)) n ≡ table (since w oldest ++ (n ∷ [])) = rw (e, ← since-long) (table-snoc (since w oldest) n) in
       rw (t, count-more)

@@ -24,11 +24,11 @@ abbrev pub table : List ℕ → List ℕ
 table lens = splice 0 lens (replicate ROWS 0)
 
 -- the messages from number `first` on, of these lengths
-unfoldable pub window_of_of : Settings → ℕ → List ℕ → Window
-window_of_of s first lens = record { settings = s; first = first; count = length lens; lens = table lens; load = load_of lens }
+unfoldable pub window_of : Settings → ℕ → List ℕ → Window
+window_of s first lens = record { settings = s; first = first; count = length lens; lens = table lens; load = load_of lens }
 
 abbrev pub new_of : Settings → Window
-new_of s = window_of_of s 0 []
+new_of s = window_of s 0 []
 
 abbrev pub kept : Window → List ℕ
 kept w = take w.count w.lens
@@ -50,7 +50,7 @@ pub record Within (s : Settings) (l : Load) : Type 0 where
 
 pub record Valid (w : Window) : Type 0 where
   pub settings : Good w.settings
-  pub shape : w ≡ window_of_of w.settings w.first (kept w)
+  pub shape : w ≡ window_of w.settings w.first (kept w)
   pub within : Within w.settings (load_of (kept w))
   pub next-most : next_of w ≤ LIMIT
 
@@ -82,7 +82,7 @@ room_number (Refused e) = number_of e
 -- ---- counting a message: it is kept after those from the oldest unacknowledged one on. A refusal changes nothing
 
 abbrev pub counted : Window → ℕ → ℕ → Window
-counted w oldest n = window_of_of w.settings oldest (since w oldest ++ (n ∷ []))
+counted w oldest n = window_of w.settings oldest (since w oldest ++ (n ∷ []))
 
 unfoldable pub after_queued : Window → ℕ → ℕ → Window
 after_queued w oldest n = pick (eqb (queue_refusal w oldest n) 0) (counted w oldest n) w

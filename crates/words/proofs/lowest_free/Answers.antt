@@ -1,3 +1,4 @@
+-- `words::lowest_free` meets its contract: whatever was passed is held. Assumes nothing.
 use Rattle.std.proofs.Common.{◌≡◌, sym, ◌∙◌, arith, false, not}
 use Rattle.words.proofs.Lists.{first_below, none_below}
 use Rattle.words.proofs.lowest_free.Goals as goal

@@ -1,3 +1,4 @@
+-- `words::lowest_free` meets its contract: whatever was passed is held. Assumes nothing.
 use Rattle.std.proofs.Common.{◌-◌, ◌≡◌, ◌≤◌, ℕ, ◌<◌, length, get_or, false, not}
 use Rattle.words.proofs.lowest_free.Given as goal
 

@@ -1,3 +1,5 @@
+-- `words::write_bytes` meets its contract. The loop's invariant: the first i bytes of `src` are in their place, and nothing else changed.
+-- Assumes nothing.
 use Rattle.std.proofs.Common.{arith, refl, length-set}
 use Rattle.words.proofs.Splice.{copy-none, copy_more}
 use Rattle.words.proofs.write_bytes.Goals as goal

@@ -1,3 +1,5 @@
+-- `words::write_bytes` meets its contract. The loop's invariant: the first i bytes of `src` are in their place, and nothing else changed.
+-- Assumes nothing.
 use Rattle.std.proofs.Common.{length, ◌-◌, ◌≡◌, ◌≤◌, take}
 use Rattle.words.specs.Lists.{splice}
 use Rattle.words.proofs.write_bytes.Given as goal

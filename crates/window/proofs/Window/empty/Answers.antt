@@ -2,9 +2,9 @@
 use mathlib.Core.Path.{refl}
 use Rattle.words.specs.Lists.{total, splice}
 use Rattle.window.specs.Rule.{load_of}
-use Rattle.window.specs.Window.{window_of_of}
+use Rattle.window.specs.Window.{window_of}
 use Rattle.window.proofs.Window.empty.Goals as goal
 
 pub returns : goal.returns
-unfolding window_of_of load_of total splice
+unfolding window_of load_of total splice
 returns c = refl
