@@ -40,8 +40,8 @@ pub struct Made {
 }
 
 // Whether there is room for a message. Its sender has to wait where the receiver might have to refuse one: 7 for
-// memory, 11 for a slot or a lane. A message above the receiver's piece limit never goes (12), and 13 tells of an
-// oldest message that can't be the oldest.
+// memory, 11 for a slot or a lane. A message above the receiver's piece limit never goes (12). 13 tells of an oldest
+// message above the next one, or below one that was named when a message was counted; no other wrong one is noticed.
 #[derive(Clone, Copy)]
 pub enum Room {
     Free,
