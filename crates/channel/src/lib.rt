@@ -17,47 +17,40 @@ pub struct Settings {
     pub max_memory_usage_bytes: usize,
 }
 
-// Whether a channel end was set up.
-#[derive(Clone, Copy)]
-pub enum Setup {
-    Ready,
-    Refused(Refusal),
-}
-
-// Whether it was, and the settings that it has.
+// Whether a channel end was set up, and the settings that it has.
 #[derive(Clone, Copy)]
 pub struct Settled {
-    pub answer: Setup,
+    pub answer: Result<(), Refusal>,
     pub settings: Settings,
 }
 
 impl Settings {
     // Whether the settings are within their ranges.
-    pub fn judge(self) -> Setup
+    pub fn judge(self) -> Result<(), Refusal>
         ensures { setup_number result ≡ settings_refusal self }
     {
         if self.slots < 1 {
-            return Setup::Refused(Refusal::BadSettings);
+            return Err(Refusal::BadSettings);
         }
         if SLOTS < self.slots {
-            return Setup::Refused(Refusal::BadSettings);
+            return Err(Refusal::BadSettings);
         }
         if self.lanes < 1 {
-            return Setup::Refused(Refusal::BadSettings);
+            return Err(Refusal::BadSettings);
         }
         if LANES < self.lanes {
-            return Setup::Refused(Refusal::BadSettings);
+            return Err(Refusal::BadSettings);
         }
         if self.pieces < 1 {
-            return Setup::Refused(Refusal::BadSettings);
+            return Err(Refusal::BadSettings);
         }
         if PIECES < self.pieces {
-            return Setup::Refused(Refusal::BadSettings);
+            return Err(Refusal::BadSettings);
         }
         if MAX_MEMORY < self.max_memory_usage_bytes {
-            return Setup::Refused(Refusal::BadSettings);
+            return Err(Refusal::BadSettings);
         }
-        Setup::Ready
+        Ok(())
     }
 
     // Judges the settings; the least ones stand for settings that are refused.
@@ -66,11 +59,11 @@ impl Settings {
     {
         let answer = self.judge();
         match answer {
-            Setup::Ready => Settled {
-                answer: Setup::Ready,
+            Ok(()) => Settled {
+                answer: Ok(()),
                 settings: self,
             },
-            Setup::Refused(e) => {
+            Err(e) => {
                 let least = Settings {
                     slots: 1,
                     lanes: 1,
@@ -78,7 +71,7 @@ impl Settings {
                     max_memory_usage_bytes: 0,
                 };
                 Settled {
-                    answer: Setup::Refused(e),
+                    answer: Err(e),
                     settings: least,
                 }
             }
@@ -110,15 +103,10 @@ pub fn find<'a>(held: &'a [bool], ids: &'a [u64], id: u64) -> usize
     requires { length held.now ≡ length ids.now }
     ensures { result ≡ held_at held.now ids.now id }
 {
-    let mut i = 0;
-    while i < held.len() {
-        let taken = held[i];
-        if taken {
-            if ids[i] == id {
-                return i;
-            }
+    for i in 0..held.len() {
+        if held[i] && ids[i] == id {
+            return i;
         }
-        i += 1;
     }
-    i
+    held.len()
 }
