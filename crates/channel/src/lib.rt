@@ -1,15 +1,32 @@
 #![tactic(auto)]
 // What the channel ends share: settings and how they are judged, the two stores that they ask for,
-// a part of a store, and the search of a table by id.
+// a part of a store, where a piece goes, and the search of a table by id.
 ghost use Rattle.std.specs.Prelude.{◌≡◌, ◌+◌, ◌≤◌, length, take, drop};
 ghost use Rattle.channel.specs.Settings.{setup_number, settings_refusal, SettledGives, Good, stores_hold_of};
 ghost use Rattle.channel.specs.Find.{held_at};
 
 use words::{LANES, MAX_MEMORY, PIECES, Refusal, SLICE_SIZE, SLOTS};
 
+// Most messages that a channel end holds at a time.
+pub const ROWS: usize = SLOTS + LANES;
+
+// Which of the two lent stores: that of the cells for small messages, or that of the lanes.
+#[derive(Clone, Copy, Debug, PartialEq, Eq)]
+pub enum Store {
+    Small,
+    Lanes,
+}
+
+// The lane that a piece goes to; whether that one is new.
+#[derive(Clone, Copy, Debug, PartialEq, Eq)]
+pub struct SlicePlace {
+    pub lane: usize,
+    pub fresh: bool,
+}
+
 // How many small and sliced messages a channel end holds at a time, how many pieces a message may
 // have, and how many bytes all may take.
-#[derive(Clone, Copy)]
+#[derive(Clone, Copy, Debug, PartialEq, Eq)]
 pub struct Settings {
     pub slots: usize,
     pub lanes: usize,
@@ -18,7 +35,7 @@ pub struct Settings {
 }
 
 // Whether a channel end was set up, and the settings that it has.
-#[derive(Clone, Copy)]
+#[derive(Clone, Copy, Debug, PartialEq, Eq)]
 pub struct Settled {
     pub answer: Result<(), Refusal>,
     pub settings: Settings,
