@@ -1,11 +1,11 @@
 #![tactic(auto)]
 // One reassembly: which pieces of a message are here, where each goes in the lane that is lent for
 // it, and when the message is whole. Pieces come in any order, and may repeat.
-ghost use Rattle.std.specs.Prelude.{◌≡◌, ◌<◌, length};
-ghost use Rattle.slice_constructor.specs.Collect.{Valid, blank_of, BeginGives, start_of, kept_of, sized, collect_refusal, taken, lane_taken, collect_of, answer_of, CollectGives};
+ghost use Rattle.std.specs.Prelude.{◌≡◌, ◌<◌, length, Ok};
+ghost use Rattle.slice_constructor.specs.Collect.{Valid, blank_of, begin_number, begin_refusal, BeginGives, start_of, kept_of, sized, collect_refusal, taken, lane_taken, collect_of, answer_of, CollectGives};
 ghost use Rattle.slice_constructor.specs.Steps.{judged_number};
 
-use words::{LIMIT, MessageId, PIECES, Refusal, SLICE_SIZE, SliceIndex};
+use words::{After, LIMIT, MessageId, PIECES, Refusal, SLICE_SIZE, SliceIndex};
 
 // One reassembly. A blank one has no piece to come.
 #[derive(Clone, Copy)]
@@ -17,35 +17,16 @@ pub struct SliceConstructor {
     received: [bool; PIECES],
 }
 
-// Whether a reassembly was begun.
-#[derive(Clone, Copy)]
-pub enum Begin {
-    Ready,
-    Refused(Refusal),
-}
+// Whether a reassembly was begun, and its state; a refused one's is blank.
+pub type Begun = After<Result<(), Refusal>, SliceConstructor>;
 
-#[derive(Clone, Copy)]
-pub struct Begun {
-    pub answer: Begin,
-    pub state: SliceConstructor,
-}
-
-// What came of a piece: more are to come, or the message is whole and so long.
-#[derive(Clone, Copy)]
-pub enum Collect {
-    More,
-    Whole(usize),
-    Refused(Refusal),
-}
-
-#[derive(Clone, Copy)]
-pub struct Collected {
-    pub answer: Collect,
-    pub state: SliceConstructor,
-}
+// How long the message is, if the piece made it whole; None while more are to come. And the state
+// after the piece.
+pub type Collected = After<Result<Option<usize>, Refusal>, SliceConstructor>;
 
 // What a lane keeps of a message: whether it is whole, how long it then is or what it is charged
-// before, and what puts it together, which is blank once it is whole.
+// before, and what puts it together, which is blank once it is whole. No enum: the receivers write
+// all three into columns, whatever they are.
 #[derive(Clone, Copy)]
 pub struct Kept {
     pub whole: bool,
@@ -53,31 +34,20 @@ pub struct Kept {
     pub constructor: SliceConstructor,
 }
 
-// Whether a piece may be taken.
-#[derive(Clone, Copy)]
-enum Judged {
-    Good,
-    Refused(Refusal),
-}
-
 impl SliceConstructor {
     // Begins the reassembly of a message.
     pub fn new(message_id: MessageId, num_slices: u64) -> Begun
         ensures { BeginGives message_id.0 num_slices result }
     {
-        if LIMIT <= message_id.0 {
-            return SliceConstructor::refused(Refusal::BadNumber);
-        }
-        if num_slices == 0 {
-            return SliceConstructor::refused(Refusal::InvalidSliceMessage);
-        }
-        if (PIECES as u64) < num_slices {
-            return SliceConstructor::refused(Refusal::TooLong);
-        }
-        let state = SliceConstructor::empty(message_id, num_slices as usize);
-        Begun {
-            answer: Begin::Ready,
-            state,
+        match judge_new(message_id.0, num_slices) {
+            Ok(()) => After {
+                answer: Ok(()),
+                state: SliceConstructor::empty(message_id, num_slices as usize),
+            },
+            Err(e) => After {
+                answer: Err(e),
+                state: SliceConstructor::blank(),
+            },
         }
     }
 
@@ -108,19 +78,16 @@ impl SliceConstructor {
         ensures { CollectGives self slice_index.0 bytes.now lane.old lane.new result }
     {
         let i = slice_index.0;
-        let judged = self.judge(i, bytes.len(), lane.len());
-        match judged {
-            Judged::Refused(e) => Collected {
-                answer: Collect::Refused(e),
+        if let Err(e) = self.judge(i, bytes.len(), lane.len()) {
+            return After {
+                answer: Err(e),
                 state: self,
-            },
-            Judged::Good => {
-                let state = self.take(i as usize, bytes, lane);
-                Collected {
-                    answer: state.answer(),
-                    state,
-                }
-            }
+            };
+        }
+        let state = self.take(i as usize, bytes, lane);
+        After {
+            answer: Ok(state.answer()),
+            state,
         }
     }
 
@@ -140,29 +107,17 @@ impl SliceConstructor {
         requires { Valid self × (0 < self.num_slices) }
         ensures { result ≡ kept_of self }
     {
-        if self.num_received_slices == self.num_slices {
-            let constructor = SliceConstructor::blank();
-            return Kept {
+        match self.answer() {
+            Some(len) => Kept {
                 whole: true,
-                len: (self.num_slices - 1) * SLICE_SIZE + self.last_len,
-                constructor,
-            };
-        }
-        Kept {
-            whole: false,
-            len: SLICE_SIZE * self.num_slices,
-            constructor: self,
-        }
-    }
-
-    // A beginning that was refused; its state is blank.
-    fn refused(e: Refusal) -> Begun
-        ensures { (result.answer ≡ Begin.Refused e) × (result.state ≡ blank_of 0 0) }
-    {
-        let state = SliceConstructor::blank();
-        Begun {
-            answer: Begin::Refused(e),
-            state,
+                len,
+                constructor: SliceConstructor::blank(),
+            },
+            None => Kept {
+                whole: false,
+                len: SLICE_SIZE * self.num_slices,
+                constructor: self,
+            },
         }
     }
 
@@ -191,21 +146,20 @@ impl SliceConstructor {
     }
 
     // Whether a piece of n bytes may be taken, with room bytes lent for the message.
-    fn judge(self, i: u64, n: usize, room: usize) -> Judged
+    fn judge(self, i: u64, n: usize, room: usize) -> Result<(), Refusal>
         requires { Valid self }
         ensures { judged_number result ≡ collect_refusal self i n room }
     {
         if room < self.num_slices * SLICE_SIZE {
-            return Judged::Refused(Refusal::BadStore);
+            return Err(Refusal::BadStore);
         }
         if self.num_slices as u64 <= i {
-            return Judged::Refused(Refusal::InvalidSliceMessage);
+            return Err(Refusal::InvalidSliceMessage);
         }
-        if self.is_sized(i, n) {
-            Judged::Good
-        } else {
-            Judged::Refused(Refusal::InvalidSliceMessage)
+        if !self.is_sized(i, n) {
+            return Err(Refusal::InvalidSliceMessage);
         }
+        Ok(())
     }
 
     // Takes a piece that was judged good; one that is here already is left as it is.
@@ -213,8 +167,7 @@ impl SliceConstructor {
         requires { Valid self × (collect_refusal self i (length bytes.now) (length lane.old) ≡ 0) }
         ensures { (result ≡ taken self i (length bytes.now)) × (lane.new ≡ lane_taken self i bytes.now lane.old) }
     {
-        let here = self.received[i];
-        if here {
+        if self.received[i] {
             return self;
         }
         words::write_bytes(lane, i * SLICE_SIZE, bytes);
@@ -226,14 +179,30 @@ impl SliceConstructor {
         self
     }
 
-    // Whether the message is whole, and how long it then is.
-    fn answer(self) -> Collect
+    // How long the message is, if it is whole.
+    fn answer(self) -> Option<usize>
         requires { Valid self × (0 < self.num_slices) }
-        ensures { collect_of result ≡ answer_of self }
+        ensures { collect_of (Ok result) ≡ answer_of self }
     {
         if self.num_received_slices == self.num_slices {
-            return Collect::Whole((self.num_slices - 1) * SLICE_SIZE + self.last_len);
+            return Some((self.num_slices - 1) * SLICE_SIZE + self.last_len);
         }
-        Collect::More
+        None
     }
+}
+
+// Whether a reassembly of so many pieces may be begun for a message with this id.
+fn judge_new(id: u64, num_slices: u64) -> Result<(), Refusal>
+    ensures { begin_number result ≡ begin_refusal id num_slices }
+{
+    if LIMIT <= id {
+        return Err(Refusal::BadNumber);
+    }
+    if num_slices == 0 {
+        return Err(Refusal::InvalidSliceMessage);
+    }
+    if (PIECES as u64) < num_slices {
+        return Err(Refusal::TooLong);
+    }
+    Ok(())
 }

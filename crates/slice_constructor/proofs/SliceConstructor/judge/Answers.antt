@@ -12,10 +12,10 @@ pub returns-then-self-i : goal.returns-then-self-i
 unfolding collect_refusal
 returns-then-self-i c = simp (le-ltb _ _ c.if-room-self.false, le-leb _ _ c.if-self-i.true)
 
-pub returns-then-is_sized : goal.returns-then-is_sized
+pub returns : goal.returns
 unfolding collect_refusal
-returns-then-is_sized c = simp (le-ltb _ _ c.if-room-self.false, lt-leb _ _ c.if-self-i.false, sym c.is_sized.ensures ∙ c.if-is_sized.true)
+returns c = simp (le-ltb _ _ c.if-room-self.false, lt-leb _ _ c.if-self-i.false, sym c.is_sized.ensures ∙ c.if-not-is_sized.false)
 
-pub returns-else-is_sized : goal.returns-else-is_sized
+pub returns-then-not-is_sized : goal.returns-then-not-is_sized
 unfolding collect_refusal
-returns-else-is_sized c = simp (le-ltb _ _ c.if-room-self.false, lt-leb _ _ c.if-self-i.false, sym c.is_sized.ensures ∙ c.if-is_sized.false)
+returns-then-not-is_sized c = simp (le-ltb _ _ c.if-room-self.false, lt-leb _ _ c.if-self-i.false, sym c.is_sized.ensures ∙ c.if-not-is_sized.true)

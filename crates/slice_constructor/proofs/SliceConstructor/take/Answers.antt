@@ -9,9 +9,9 @@ use Rattle.slice_constructor.proofs.SliceConstructor.take.Goals as goal
 pub bounds-self-i : goal.bounds-self-i
 bounds-self-i c = let p = c.requires in omega (arith, in_table _ p.0 _ _ _ (good _ _ _ _ p.1), p.0.received-long)
 
-pub returns-then-here : goal.returns-then-here
+pub returns-then-self-i : goal.returns-then-self-i
 unfolding taken lane_taken
-returns-then-here c = (simp c.if-here.true, simp c.if-here.true)
+returns-then-self-i c = (simp c.if-self-i.true, simp c.if-self-i.true)
 
 pub overflow_mul-i : goal.overflow_mul-i
 overflow_mul-i c = let p = c.requires in omega (arith, (good _ _ _ _ p.1).low, p.0.num-most)
@@ -28,13 +28,13 @@ overflow_add-self c = let v = c.requires.0 in omega (arith, holds-le c.args.self
 pub returns-then-i-self : goal.returns-then-i-self
 unfolding taken lane_taken
 returns-then-i-self c = (
-  simp (c.if-here.false, eq-eqb _ _ c.if-i-self.true),
-  simp c.if-here.false c.write_bytes.ensures.1,
+  simp (c.if-self-i.false, eq-eqb _ _ c.if-i-self.true),
+  simp c.if-self-i.false c.write_bytes.ensures.1,
 )
 
 pub returns-else-i-self : goal.returns-else-i-self
 unfolding taken lane_taken
 returns-else-i-self c = (
-  simp (c.if-here.false, ne_eqb _ _ c.if-i-self.false),
-  simp c.if-here.false c.write_bytes.ensures.1,
+  simp (c.if-self-i.false, ne_eqb _ _ c.if-i-self.false),
+  simp c.if-self-i.false c.write_bytes.ensures.1,
 )
