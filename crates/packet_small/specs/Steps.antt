@@ -5,8 +5,7 @@ use Rattle.words.specs.Choice.{pick}
 use Rattle.words.specs.Lists.{splice}
 use Rattle.octets.specs.Reader.{Res, ok, fault}
 use Rattle.octets.specs.Varint.{var_len}
-use Rattle.packet_small.specs.declared.Walk.{Walk}
-use Rattle.packet_small.specs.declared.Walk.TheVariants.{Until, Lost}
+use Rattle.octets.specs.Writer.{Outcome, done, refused}
 use Rattle.packet_small.specs.declared.Judgement.{Judgement}
 use Rattle.packet_small.specs.Small.{Message, words}
 use Rattle.packet_small.specs.Write.{Said, id_said, stored, sayable}
@@ -14,9 +13,9 @@ use Rattle.packet_small.specs.Write.{Said, id_said, stored, sayable}
 -- ---- reading
 
 -- how a walk over messages ends
-abbrev pub walk_of : Res (List Message) → Walk
-walk_of (ok ms next) = Until next
-walk_of (fault e) = Lost
+abbrev pub walk_of : Res (List Message) → Outcome
+walk_of (ok ms next) = done next
+walk_of (fault e) = refused e
 
 -- a table with messages written from word j on
 abbrev pub filled : Res (List Message) → ℕ → List ℕ → List ℕ

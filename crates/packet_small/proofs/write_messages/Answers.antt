@@ -21,7 +21,7 @@ none_left c = search sizes-none
 pub loop-i-init : goal.loop-i-init
 loop-i-init c =
     let p = c.requires in
-    (omega arith, refl, rw sub-zero p.count_value, rw sub-zero p.count_value_2, rw sub-zero refl, rw sub-zero refl)
+    (refl, rw sub-zero p.count_value, rw sub-zero p.count_value_2, rw sub-zero refl, rw sub-zero refl)
 
 pub overflow_add-end-in-loop-i : goal.overflow_add-end-in-loop-i
 overflow_add-end-in-loop-i c = let k = known (goal.at.overflow_add-end-in-loop-i c).In-loop-i in omega arith
@@ -39,7 +39,7 @@ pub loop-i-preserved : goal.loop-i-preserved
 loop-i-preserved c =
     let w = c.write_message-at.ensures in
     let k = known (goal.at.loop-i-preserved c).In-loop-i in
-    (omega arith, omega arith, k.all-stored, k.all-sayable, omega arith, turn-wrote _ _ _ _ _ _ _ c.loop-i-test.true w.1 w.0 c.loop-i.invariant.5)
+    (omega arith, k.all-stored, k.all-sayable, omega arith, turn-wrote _ _ _ _ _ _ _ c.loop-i-test.true w.1 w.0 c.loop-i.invariant.4)
 
 pub returns : goal.returns
 returns c = let z = none_left (goal.at.returns c).After-loop-i in (omega arith, search wrote_none)
