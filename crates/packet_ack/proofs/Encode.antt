@@ -1,25 +1,31 @@
 -- `put_ack` at each of its cases, in the terms in which code meets them. Assumes nothing.
 use Prim.Native.Nat.{ℕ, zero, suc, ◌+◌, ◌-◌, ◌≤◌, ◌<◌}
 use mathlib.Core.Path.{◌≡◌, refl, sym, ap, ◌∙◌, subst}
-use mathlib.Core.Bool.{true, false}
+use mathlib.Core.Bool.{Bool, true, false, not}
 use mathlib.Core.List.{List}
 use native.Mathlib.Omega.{arith}
 use borrow.Author.Tests.{lt-ltb, le-ltb, le-leb, lt-leb}
 use lib.ListN.{length}
+use Rattle.std.specs.Prelude.{Ok, Err}
 use Rattle.words.specs.Sizes.{LIMIT}
+use Rattle.words.specs.Refusal.{number_of}
+use Rattle.words.specs.declared.Refusal.{Refusal}
 use Rattle.words.specs.Lists.{splice, all, reached}
 use Rattle.words.proofs.Splice.{splice-splice}
-use Rattle.octets.specs.Writer.{done, refused, put_of}
-use Rattle.octets.specs.declared.Put.TheVariants.{To}
+use Rattle.octets.specs.Writer.{done, refused}
 use Rattle.octets.specs.Varint.{var_len}
 use Rattle.packet_ack.specs.declared.Judgement.{Judgement}
-use Rattle.packet_ack.specs.declared.Front.{Front}
 use Rattle.packet_ack.specs.Ack.{Range}
 use Rattle.packet_ack.specs.Write.{sayable, record_at, listed, rising, lowers_bytes, ack_bytes, ack_refusal, put_ack}
 use Rattle.packet_ack.specs.Steps.{below, falling_below, unjudged_in, begun, stepped, judged_next, judged_in, range_len_of, front_len, front_bytes, FrontOf}
 use Rattle.packet_ack.proofs.Pass.{judged-sayable, judged-rising, judged-spare, judged-top, judged-steps}
 use Rattle.packet_ack.proofs.Wrote.{length_front}
 use Rattle.packet_ack.proofs.Whole.{top-sayable, top-falling, ack-parts, length-ack, Known, known_of}
+
+-- a test that was turned round
+pub un-not : (b : Bool) {t : Bool} → not b ≡ t → b ≡ not t
+un-not true e = ap not e
+un-not false e = ap not e
 
 -- ---- what the pass over a table says of its ranges
 
@@ -57,15 +63,8 @@ some-range t (suc n) e = omega arith
 -- ---- the refusals
 
 -- nothing is left to be written
-pub no_front : (seq count at : ℕ) (t : List Range) (out : List ℕ) {f : Front} {x : ℕ} → (put_of f.answer ≡ refused x) × (f.pen ≡ record { at = 0; above = 0 }) × (f.left ≡ 0)
-    → refused x ≡ put_ack seq t count at (length out) → FrontOf seq count at t out out f
-unfolding below lowers_bytes splice falling_below
-no_front seq count at t out p e =
-    record {
-      answer = p.0 ∙ e;
-      writable = simp (p.1, p.2) (record { named = omega arith; falls = refl; limit = omega arith; room = omega arith });
-      wrote = simp (p.0, p.1, p.2);
-    }
+pub no_front : (seq count at : ℕ) (t : List Range) (out : List ℕ) (x : Refusal) → refused (number_of x) ≡ put_ack seq t count at (length out) → FrontOf seq count at t out out (Err x)
+no_front seq count at t out x e = record { answer = e; writable = tt; wrote = refl }
 
 module _ (seq : ℕ) (t : List Range) (count at m : ℕ) where
   pub bad-table : length t < count → refused 10 ≡ put_ack seq t count at m
@@ -159,7 +158,7 @@ module _ (seq : ℕ) (t : List Range) (at m : ℕ) {j : Judgement} {head : ℕ} 
 -- the front is written: what is left of the packet goes after it
 pub front-done : (seq : ℕ) (t : List Range) (count n at : ℕ) (j : Judgement) (head : ℕ) (out : List ℕ) → Good seq t count n at (length out) j head → head < j.spare → {next m : ℕ} {out' : List ℕ}
     → next ≡ at + front_len seq j.top n → out' ≡ splice at (front_bytes seq j.top n) out → m ≡ length out
-    → FrontOf seq count at t out out' (record { answer = To (m - (j.spare - head - 1)); pen = record { at = next; above = j.top.start }; left = n })
+    → FrontOf seq count at t out out' (Ok (record { pen = record { at = next; above = j.top.start }; left = n; next = m - (j.spare - head - 1) }))
 front-done seq t count n at j head out g h e w l =
     record {
       answer = ap (λ (k : ℕ). done (k - (j.spare - head - 1))) l ∙ g.ends h;

@@ -2,8 +2,8 @@
 use mathlib.Core.Path.{◌∙◌}
 use Rattle.packet_ack.proofs.judge_range.Goals as goal
 
-pub returns-then-first : goal.returns-then-first
-returns-then-first c = c.judge_highest.ensures ∙ simp c.if-first.true
+pub returns-then-j : goal.returns-then-j
+returns-then-j c = c.judge_highest.ensures ∙ simp c.if-j.true
 
 pub returns : goal.returns
-returns c = c.judge_lower.ensures ∙ simp c.if-first.false
+returns c = c.judge_lower.ensures ∙ simp c.if-j.false
