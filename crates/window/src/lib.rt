@@ -5,10 +5,11 @@
 ghost use Rattle.std.specs.Prelude.{◌≡◌, ◌≤◌, length, take, drop};
 ghost use Rattle.channel.specs.Settings.{Good};
 ghost use Rattle.window.specs.Rule.{load_of};
-ghost use Rattle.window.specs.Window.{ROWS, table, new_of, kept, Valid, MadeGives, room_number, queue_refusal, QueuedGives};
+ghost use Rattle.window.specs.Window.{ROWS, table, new_of, kept, MadeGives, room_number, queue_refusal, QueuedGives};
 ghost use Rattle.window.specs.Steps.{one_of, Bounded, plus, Holds, minus, step_of, judged, spot_of};
 
 use channel::Settings;
+use std::marker::Model;
 use words::{After, LANES, LIMIT, MessageId, Refusal, SLICE_SIZE, SLOTS};
 
 // Most messages that a receiver has room for.
@@ -31,6 +32,22 @@ pub struct Window {
     count: usize,
     lens: [u32; ROWS],
     load: Load,
+}
+
+// A contract sees its fields, of which `Valid` is always true.
+impl Model for Window {
+    ghost use Rattle.window.specs.State.{State};
+
+    ghost Value = { State };
+
+    ghost use Rattle.window.specs.Window.{Valid};
+    ghost use Rattle.window.specs.Fields.{state_of, fields_of};
+
+    ghost view = { state_of };
+
+    ghost invariant = { λ a. Valid (state_of a) };
+
+    ghost inverse = { fields_of };
 }
 
 // Whether a window was set up, and the window.
@@ -139,7 +156,6 @@ impl Window {
     // above the receiver's piece limit never goes (12). 13 tells of an oldest message above the next one, or below one
     // that was named when a message was counted; no other wrong one is noticed.
     pub fn can_queue(self, oldest: MessageId, len: usize) -> Result<(), Refusal>
-        requires { Valid self }
         ensures { room_number result ≡ queue_refusal self oldest.0 len }
     {
         self.step(oldest.0, len)?;
@@ -148,7 +164,6 @@ impl Window {
 
     // Counts a message that was queued. Where it might not be, it isn't counted.
     pub fn queued(mut self, oldest: MessageId, len: usize) -> Counted
-        requires { Valid self }
         ensures { QueuedGives self oldest.0 len result }
     {
         let step = match self.step(oldest.0, len) {
@@ -176,6 +191,7 @@ impl Window {
     }
 
     fn empty(settings: Settings) -> Window
+        requires { Good settings }
         ensures { result ≡ new_of settings }
     {
         Window {
@@ -192,9 +208,8 @@ impl Window {
     }
 
     // What the rule says of a message. Counting starts at the oldest unacknowledged one.
-    fn step(self, oldest: u64, len: usize) -> Result<Step, Refusal>
-        requires { Valid self }
-        ensures { step_of result ≡ spot_of self oldest len }
+    fn step(&self, oldest: u64, len: usize) -> Result<Step, Refusal>
+        ensures { step_of result ≡ spot_of self.now oldest len }
     {
         let first = self.first;
         let next = first + self.count as u64;
@@ -214,10 +229,9 @@ impl Window {
     }
 
     // What the messages that are kept may take, without the first ones.
-    #[tactic(auto, using(crate::proofs::Valid::count_most))]
-    fn load_without(self, gone: usize) -> Load
-        requires { Valid self × (gone ≤ self.count) }
-        ensures { result ≡ load_of (drop gone (kept self)) }
+    fn load_without(&self, gone: usize) -> Load
+        requires { gone ≤ self.now.count }
+        ensures { result ≡ load_of (drop gone (kept self.now)) }
     {
         let mut load = self.load;
         for len in self.lens[..gone].iter() {
