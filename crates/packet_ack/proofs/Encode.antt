@@ -33,6 +33,10 @@ judged-is : (t : List Range) (count room : ℕ) → count ≤ length t → judge
 unfolding judged_in
 judged-is t count room h = simp (le-leb _ _ h)
 
+-- as code meets it, where the table holds so many
+pub judged-here : (t : List Range) (count room : ℕ) → count ≤ length t → {r : ℕ} {j₀ j : Judgement} → r ≡ room → j₀ ≡ unjudged_in r → j ≡ reached judged_next j₀ (below t count) → j ≡ judged_in t count room
+judged-here t count room h e u w = w ∙ ap (λ (k : Judgement). reached judged_next k (below t count)) (u ∙ ap unjudged_in e) ∙ sym (judged-is t count room h)
+
 sayable-is : (t : List Range) (count room : ℕ) → (reached judged_next (unjudged_in room) (below t count)).sayable ≡ all sayable (listed t 0 count)
 unfolding below reached listed all
 sayable-is t zero room = refl

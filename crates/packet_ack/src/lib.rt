@@ -8,8 +8,9 @@ ghost use Rattle.std.specs.Prelude.{◌≡◌, ◌+◌, ◌-◌, ◌≤◌, ◌<
 ghost use Rattle.words.specs.Sizes.{LIMIT};
 ghost use Rattle.words.specs.Lists.{splice, reached};
 ghost use Rattle.octets.specs.Varint.{var_len};
-ghost use Rattle.packet_ack.specs.Ack.{RANGES, lower, lowers};
-ghost use Rattle.packet_ack.specs.Write.{sayable, lowers_bytes};
+ghost use Rattle.octets.specs.Writer.{put_of, left};
+ghost use Rattle.packet_ack.specs.Ack.{RANGES, lower, lowers, ack, judged, tabled, told, read_of};
+ghost use Rattle.packet_ack.specs.Write.{sayable, lowers_bytes, listed, ack_bytes, put_ack};
 ghost use Rattle.packet_ack.specs.Steps.{lower_of, highest, highest_of, ended, walk_of, lower_spot_of, filled_from, FindGives};
 ghost use Rattle.packet_ack.specs.Steps.{unjudged_in, begun, stepped, judged_next, below, start_bytes, range_len_of, range_bytes, front_len, front_bytes, gap_below, pen_below, Writable, JudgedOf, FrontGives};
 
@@ -175,6 +176,16 @@ pub fn find_ack(s: &[u8], at: usize, room: usize) -> Result<Found, Refusal>
     };
     let top = highest.top;
     Ok(Found { ack, next, top })
+}
+
+// Reads what follows the type byte, from a place on, and fills the table if all is good and it is large enough.
+pub fn read_ack(s: &[u8], at: usize, ranges: &mut [Range]) -> Result<(Ack, usize), Refusal>
+    ensures { (read_of result ≡ told (judged (ack s.now at) (length ranges.old)))
+        × (ranges.new ≡ tabled (judged (ack s.now at) (length ranges.old)) ranges.old) }
+{
+    let found = find_ack(s, at, ranges.len())?;
+    fill_ranges(ranges, s, found.top, found.ack.count);
+    Ok((found.ack, found.next))
 }
 
 impl Range {
@@ -353,4 +364,20 @@ pub fn put_front(
         left,
         next: out.len() - (spare - head - 1) as usize,
     })
+}
+
+// Writes a packet whose ranges stand in a table, or refuses and changes nothing.
+pub fn put_ack(out: &mut [u8], at: usize, packet: Ack, ranges: &[Range]) -> Result<usize, Refusal>
+    ensures { (put_of result ≡ put_ack packet.sequence.0 ranges.now packet.count at (length out.old))
+        × (out.new ≡ left (put_of result) at (ack_bytes packet.sequence.0 (listed ranges.now 0 packet.count)) out.old) }
+{
+    let count = packet.count;
+    if ranges.len() < count {
+        return Err(Refusal::BadStore);
+    }
+    let room = out.len().saturating_sub(at);
+    let j = judge_ranges(ranges, count, unjudged(room));
+    let front = put_front(out, at, packet, ranges.len(), j)?;
+    write_ranges(out, ranges, front.left, front.pen);
+    Ok(front.next)
 }
