@@ -4,6 +4,7 @@
 ghost use Rattle.std.specs.Prelude.{◌≡◌, ◌+◌, ◌≤◌, length, take, drop};
 ghost use Rattle.channel.specs.Settings.{setup_number, settings_refusal, SettledGives, Good, stores_hold_of};
 ghost use Rattle.channel.specs.Find.{held_at};
+ghost use Rattle.channel.specs.Place.{place_for};
 
 use words::{LANES, MAX_MEMORY, PIECES, Refusal, SLICE_SIZE, SLOTS};
 
@@ -15,6 +16,13 @@ pub const ROWS: usize = SLOTS + LANES;
 pub enum Store {
     Small,
     Lanes,
+}
+
+// The lane of an open message, with what it is charged.
+#[derive(Clone, Copy, Debug, PartialEq, Eq)]
+pub struct Opened {
+    pub lane: usize,
+    pub charge: usize,
 }
 
 // The lane that a piece goes to; whether that one is new.
@@ -126,4 +134,20 @@ pub fn find<'a>(held: &'a [bool], ids: &'a [u64], id: u64) -> usize
         }
     }
     held.len()
+}
+
+// The lane for a piece: its message's where that is open, else the free one.
+pub fn lane_for(opened: Option<Opened>, free: usize) -> SlicePlace
+    ensures { result ≡ place_for opened free }
+{
+    match opened {
+        Some(o) => SlicePlace {
+            lane: o.lane,
+            fresh: false,
+        },
+        None => SlicePlace {
+            lane: free,
+            fresh: true,
+        },
+    }
 }

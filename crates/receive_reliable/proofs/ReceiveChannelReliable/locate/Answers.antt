@@ -1,0 +1,2 @@
+-- `ReceiveChannelReliable::locate` meets its contract. Assumes nothing.
+use Rattle.receive_reliable.proofs.ReceiveChannelReliable.locate.Goals as goal
