@@ -48,7 +48,7 @@ fn u16_at(s: &[u8], at: usize) -> u64
     requires { at + 2 ≤ length s.now }
     ensures { (result ≡ pair_at s.now at) × (result < 65536) }
 {
-    u64::from(s[at]) * 256 + u64::from(s[at + 1])
+    u64::from(u16::from_be_bytes([s[at], s[at + 1]]))
 }
 
 // The number of four bytes that are there, the highest first.
@@ -56,7 +56,7 @@ fn u32_at(s: &[u8], at: usize) -> u64
     requires { at + 4 ≤ length s.now }
     ensures { (result ≡ quad_at s.now at) × (result < 4294967296) }
 {
-    u16_at(s, at) * 65536 + u16_at(s, at + 2)
+    u64::from(u32::from_be_bytes([s[at], s[at + 1], s[at + 2], s[at + 3]]))
 }
 
 // The byte at a place.
@@ -73,10 +73,7 @@ pub fn get_u8(s: &[u8], at: usize) -> Result<(u64, usize), Refusal>
 pub fn get_u16(s: &[u8], at: usize) -> Result<(u64, usize), Refusal>
     ensures { num_of result ≡ pair s.now at }
 {
-    if s.len() < at {
-        return Err(Refusal::BufferTooShort);
-    }
-    if s.len() - at < 2 {
+    if s.len().saturating_sub(at) < 2 {
         return Err(Refusal::BufferTooShort);
     }
     Ok((u16_at(s, at), at + 2))
@@ -131,9 +128,7 @@ pub fn write_u16(out: &mut [u8], at: usize, v: u16) -> usize
     requires { at + 2 ≤ length out.old }
     ensures { (result ≡ at + 2) × (out.new ≡ splice at (pair_bytes v) out.old) }
 {
-    out[at] = (v / 256) as u8;
-    out[at + 1] = (v % 256) as u8;
-    at + 2
+    words::write_bytes(out, at, &v.to_be_bytes())
 }
 
 // Writes a number in four bytes where there is room, the highest first, and answers the place after it.
@@ -141,8 +136,7 @@ fn write_u32(out: &mut [u8], at: usize, v: u32) -> usize
     requires { at + 4 ≤ length out.old }
     ensures { (result ≡ at + 4) × (out.new ≡ splice at (quad_bytes v) out.old) }
 {
-    let a = write_u16(out, at, (v / 65536) as u16);
-    write_u16(out, a, (v % 65536) as u16)
+    words::write_bytes(out, at, &v.to_be_bytes())
 }
 
 // Writes the shortest form of a number that was judged to fit, and answers the place after it.
@@ -185,10 +179,7 @@ pub fn put_varint(out: &mut [u8], at: usize, v: u64) -> Result<usize, Refusal>
     if LIMIT <= v {
         return Err(Refusal::BadNumber);
     }
-    if out.len() < at {
-        return Err(Refusal::BufferTooShort);
-    }
-    if out.len() - at < form_len(v) {
+    if out.len().saturating_sub(at) < form_len(v) {
         return Err(Refusal::BufferTooShort);
     }
     Ok(write_varint(out, at, v))
@@ -199,10 +190,7 @@ pub fn put_u16(out: &mut [u8], at: usize, v: u16) -> Result<usize, Refusal>
     ensures { (put_of result ≡ put_bytes 2 at (length out.old))
         × (out.new ≡ left (put_of result) at (pair_bytes v) out.old) }
 {
-    if out.len() < at {
-        return Err(Refusal::BufferTooShort);
-    }
-    if out.len() - at < 2 {
+    if out.len().saturating_sub(at) < 2 {
         return Err(Refusal::BufferTooShort);
     }
     Ok(write_u16(out, at, v))
@@ -217,15 +205,9 @@ pub fn put_bytes_with_varint_length(out: &mut [u8], at: usize, src: &[u8]) -> Re
     if LIMIT <= n {
         return Err(Refusal::BadNumber);
     }
-    if out.len() < at {
-        return Err(Refusal::BufferTooShort);
-    }
-    let room = out.len() - at;
+    let room = out.len().saturating_sub(at);
     let head = form_len(n);
-    if room < head {
-        return Err(Refusal::BufferTooShort);
-    }
-    if room - head < src.len() {
+    if room < head || room - head < src.len() {
         return Err(Refusal::BufferTooShort);
     }
     Ok(write_bytes_with_varint_length(out, at, src))
