@@ -94,9 +94,12 @@ both : (a b : Bool) → pick a b false ≡ true → (a ≡ true) × (b ≡ true)
 both true b e = (refl, e)
 both false b e = absurd (let z : ◌≡◌ {A = ℕ} 0 1 = cc in omega arith)
 
+pub all_cons : (p : ℕ → Bool) (x : ℕ) (s : List ℕ) → all p (x ∷ s) ≡ true → (p x ≡ true) × (all p s ≡ true)
+unfolding all
+all_cons p x s e = both (p x) (all p s) e
+
 -- where all letters pass, each does
 pub all_at : (p : ℕ → Bool) (s : List ℕ) (i : ℕ) → all p s ≡ true → i < length s → p (get_or s i 0) ≡ true
-unfolding all
 all_at p [] i e h = absurd (omega arith)
-all_at p (x ∷ s) zero e h = (both (p x) (all p s) e).0
-all_at p (x ∷ s) (suc i) e h = all_at p s i (both (p x) (all p s) e).1 (omega arith)
+all_at p (x ∷ s) zero e h = (all_cons p x s e).0
+all_at p (x ∷ s) (suc i) e h = all_at p s i (all_cons p x s e).1 (omega arith)
