@@ -3,4 +3,4 @@ use Rattle.pending_acks.proofs.Valid.{joined_is}
 use Rattle.pending_acks.proofs.PendingAcks.join.Goals as goal
 
 pub returns : goal.returns
-returns c rs j = joined_is _ c.requires.0 j _ _ c.move_down.ensures c.move_down-2.ensures
+returns c rs j = joined_is _ c.requires.0 j _ c.move_down.ensures

@@ -1,9 +1,9 @@
 -- `PendingAcks::new` meets its contract. Assumes nothing.
 use mathlib.Core.Path.{refl}
 use native.Mathlib.Omega.{arith}
-use Rattle.pending_acks.specs.Gather.{filled, gatherer, ranges_in_of, Rising}
+use Rattle.pending_acks.specs.Gather.{filled, gatherer, Rising}
 use Rattle.pending_acks.proofs.PendingAcks.new.Goals as goal
 
 pub returns : goal.returns
-unfolding filled gatherer ranges_in_of Rising
+unfolding filled gatherer Rising
 returns c = (refl, record { few = omega arith; rises = tt; whole = refl })
