@@ -4,4 +4,4 @@ use Rattle.send_reliable.proofs.SendChannelReliable.empty.Goals as goal
 
 pub returns : goal.returns
 unfolding new_of
-returns c = simp (c.blank-row.ensures, c.blank-piece.ensures)
+returns c = simp (c.blank.ensures, c.blank-2.ensures)
