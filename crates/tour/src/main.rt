@@ -55,7 +55,8 @@ const MESSAGE_TABLE: usize = MESSAGE * MESSAGES;
 // The standard output.
 const STDOUT: i32 = 1;
 
-// Both ends.
+// Both ends. That they are states which the library made (`Ready`) is said by each contract: a ghost field
+// that says it was tried, and needs a proof that any two proofs of `Valid` are equal, which isn't found.
 #[derive(Clone, Copy)]
 struct Ends {
     sender: SendChannelReliable,
