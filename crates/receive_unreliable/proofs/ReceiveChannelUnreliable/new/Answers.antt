@@ -3,4 +3,4 @@ use Rattle.receive_unreliable.proofs.Gives.{made}
 use Rattle.receive_unreliable.proofs.ReceiveChannelUnreliable.new.Goals as goal
 
 pub returns : goal.returns
-returns c = made _ _ _ c.settle-settled.ensures c.empty-state.ensures
+returns c = made _ _ _ c.settle-settled.ensures c.empty.ensures

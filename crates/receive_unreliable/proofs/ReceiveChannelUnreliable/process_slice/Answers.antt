@@ -1,7 +1,10 @@
 -- `ReceiveChannelUnreliable::process_slice` meets its contract: its lane's constructor is given the piece. Assumes nothing.
-use mathlib.Core.Path.{refl}
+use Rattle.std.proofs.Common.{rules}
+use mathlib.Core.Path.{refl, sym, ap, ◌∙◌}
+use Rattle.std.specs.Prelude.{Ok}
+use Rattle.receive_unreliable.specs.declared.Arrival.{Arrival}
 use native.Mathlib.Omega.{arith}
-use Rattle.words.proofs.Tables.{part-size}
+use Rattle.words.proofs.Tables.{clash, part-size}
 use Rattle.channel.proofs.Good.{lane-end}
 use Rattle.receive_unreliable.proofs.Gives.{InLane, lane-told, slice-left, lane_inside, lane_low, within, start_fits, slice-refused, taken-fits, slice_taken}
 use Rattle.receive_unreliable.proofs.ReceiveChannelUnreliable.process_slice.Goals as goal
@@ -13,14 +16,10 @@ in_lane : (c : After-lane_for-place) → (let a = c.args in let p = c.lane_for-p
 in_lane c =
     record {
       valid = c.requires;
-      spot = lane-told c.lane_for-place.result _ _ c.slice_answer-answer.result c.lane_for-place.ensures c.slice_answer-answer.ensures c.in-Taken.is;
+      spot =
+          lane-told _ _ _ _ c.slice_answer-answer.result c.lane_for-place.ensures c.slice_answer-answer.ensures
+          (c.in-Ok-Taken.is ∙ ap (λ (x : Arrival). Ok x) (rw c.in-Ok-Taken.is at c.in-Ok-Taken.field-0-is));
     }
-
-pub slice_answer-answer-requires : goal.slice_answer-answer-requires
-slice_answer-answer-requires c = (c.requires, c.locate-opened.ensures, c.lowest_free-free.ensures)
-
-pub returns-in_default : goal.returns-in_default
-returns-in_default c = slice-left _ c.requires _ _ _ _ _ _ _ _ c.slice_answer-answer.result c.slice_answer-answer.ensures c.in_default.not-Taken
 
 pub offset_bounds-self-l : goal.offset_bounds-self-l
 offset_bounds-self-l c = let h = lane_low (in_lane (goal.at.offset_bounds-self-l c).After-lane_for-place) in omega arith
@@ -50,11 +49,20 @@ slice_bounds-process_slice-end c = omega (arith, within (in_lane (goal.at.slice_
 pub process_slice-collected-requires : goal.process_slice-collected-requires
 process_slice-collected-requires c = (start_fits (in_lane (goal.at.process_slice-collected-requires c).After-lane_for-place) _ _ c.start-constructor.ensures).valid
 
-pub returns-in-Refused : goal.returns-in-Refused
-returns-in-Refused c = slice-refused (in_lane (goal.at.returns-in-Refused c).After-lane_for-place) _ _ c.start-constructor.ensures _ (part-size _ _) _ _ c.process_slice-collected.ensures _ c.in-Refused.is
+pub returns-in-Err : goal.returns-in-Err
+returns-in-Err c = slice-refused (in_lane (goal.at.returns-in-Err c).After-lane_for-place) _ _ c.start-constructor.ensures _ (part-size _ _) _ _ c.process_slice-collected.ensures _ c.in-Err.is
 
-pub with_lane-state-requires : goal.with_lane-state-requires
-with_lane-state-requires c = (c.requires, taken-fits (in_lane (goal.at.with_lane-state-requires c).After-lane_for-place) _ _ c.start-constructor.ensures _ (part-size _ _) _ _ c.process_slice-collected.ensures c.in_default-answer.not-Refused)
+pub keep-requires : goal.keep-requires
+keep-requires c = (
+  c.requires,
+  taken-fits (in_lane (goal.at.keep-requires c).After-lane_for-place) _ _ c.start-constructor.ensures _ (part-size _ _) _ _ c.process_slice-collected.ensures c.in_default-answer.not-Err,
+)
 
 pub returns : goal.returns
-returns c = slice_taken (in_lane (goal.at.returns c).After-lane_for-place) _ _ c.start-constructor.ensures _ (part-size _ _) _ _ c.process_slice-collected.ensures c.in_default-answer.not-Refused _ c.with_lane-state.ensures
+returns c = slice_taken (in_lane (goal.at.returns c).After-lane_for-place) _ _ c.start-constructor.ensures _ (part-size _ _) _ _ c.process_slice-collected.ensures c.in_default-answer.not-Err _ c.keep.ensures
+
+pub returns-in_default : goal.returns-in_default
+returns-in_default c = slice-left _ c.requires _ _ _ _ _ _ _ _ c.slice_answer-answer.result c.slice_answer-answer.ensures (λ x. search rules)
+
+pub returns-in_default-2 : goal.returns-in_default-2
+returns-in_default-2 c = slice-left _ c.requires _ _ _ _ _ _ _ _ c.slice_answer-answer.result c.slice_answer-answer.ensures (λ x. clash (cc (sym x ∙ c.in_default.is)))

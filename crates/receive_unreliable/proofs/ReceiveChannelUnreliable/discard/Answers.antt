@@ -1,0 +1,11 @@
+-- `ReceiveChannelUnreliable::discard` meets its contract: what is taken off is part of the usage. Assumes nothing.
+use Rattle.receive_unreliable.specs.Receive.{without_open}
+use Rattle.receive_unreliable.proofs.Valid.{lane-used}
+use Rattle.receive_unreliable.proofs.ReceiveChannelUnreliable.discard.Goals as goal
+
+pub overflow_sub-self : goal.overflow_sub-self
+overflow_sub-self c = lane-used _ c.requires.0 _ c.requires.1
+
+pub returns : goal.returns
+unfolding without_open
+returns c = rw c.blank.ensures.0
