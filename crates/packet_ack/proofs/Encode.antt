@@ -6,7 +6,7 @@ use mathlib.Core.List.{List}
 use native.Mathlib.Omega.{arith}
 use borrow.Author.Tests.{lt-ltb, le-ltb, le-leb, lt-leb}
 use lib.ListN.{length}
-use Rattle.std.specs.Prelude.{Ok, Err}
+use Rattle.std.specs.Prelude.{Ok, Err, Some, None}
 use Rattle.words.specs.Sizes.{LIMIT}
 use Rattle.words.specs.Refusal.{number_of}
 use Rattle.words.specs.declared.Refusal.{Refusal}
@@ -53,11 +53,16 @@ module _ (t : List Range) (n room : ℕ) {j : Judgement} (e : j ≡ reached judg
   unfolding below
   is-steps = e ∙ judged-steps room (record_at t n) (below t n)
 
-  top-is : j.top ≡ record_at t n
+  top-is : j.top ≡ Some (record_at t n)
   top-is = ap (λ (j : Judgement). j.top) is-steps ∙ judged-top room (record_at t n) (below t n)
 
   spare-is : j.spare ≡ room - range_len_of ((record_at t n).end - 1) (record_at t n) - length (lowers_bytes (record_at t n).start (below t n))
   spare-is = ap (λ (j : Judgement). j.spare) is-steps ∙ judged-spare room (record_at t n) (below t n)
+
+none-rising : (t : List Range) (count room : ℕ) {j : Judgement} → j ≡ reached judged_next (unjudged_in room) (below t count) → j.top ≡ None → j.rising ≡ false
+unfolding below reached
+none-rising t zero room e o = ap (λ (j : Judgement). j.rising) e
+none-rising t (suc n) room e o = let z = top-is t n room e in cc
 
 pub some-range : (t : List Range) (count : ℕ) → rising (listed t 0 count) ≡ true → 0 < count
 unfolding listed rising
@@ -99,43 +104,47 @@ module _ (seq : ℕ) (t : List Range) (count at m : ℕ) where
         unfolding put_ack ack_refusal
         not-rising v = simp (le-ltb _ _ h, lt-leb _ _ k, all-sayable, ← is-rising, v)
 
+        -- none was judged
+        pub no-range : j.top ≡ None → refused 5 ≡ put_ack seq t count at m
+        no-range o = not-rising (none-rising t count (m - at) (ej ∙ judged-is t count (m - at) h) o)
+
         pub all-rising : j.rising ≡ true → rising (listed t 0 count) ≡ true
         all-rising v = sym is-rising ∙ v
 
 -- ---- the ranges are good, and there are n below the highest
 
 -- what is known then, with `head` bytes for the sequence and for n
-pub record Good (seq : ℕ) (t : List Range) (count n at m : ℕ) (j : Judgement) (head : ℕ) : Type 0 where
-  pub sized : j.top.start < j.top.end
-  pub within : j.top.end ≤ LIMIT
+pub record Good (seq : ℕ) (t : List Range) (count n at m : ℕ) (j : Judgement) (top : Range) (head : ℕ) : Type 0 where
+  pub sized : top.start < top.end
+  pub within : top.end ≤ LIMIT
   pub few : n < LIMIT
-  pub falls : falling_below j.top.start (below t n) ≡ true
+  pub falls : falling_below top.start (below t n) ≡ true
   pub named : n ≤ length t
   pub small : j.spare ≤ m
   pub no_room : j.spare ≤ head → refused 1 ≡ put_ack seq t count at m
-  pub fits : head < j.spare → at + front_len seq j.top n + length (lowers_bytes j.top.start (below t n)) ≤ m
+  pub fits : head < j.spare → at + front_len seq top n + length (lowers_bytes top.start (below t n)) ≤ m
   pub ends : head < j.spare → done (m - (j.spare - head - 1)) ≡ put_ack seq t count at m
-  pub wrote : (out : List ℕ) → splice (at + front_len seq j.top n) (lowers_bytes j.top.start (below t n)) (splice at (front_bytes seq j.top n) out) ≡ splice at (ack_bytes seq (listed t 0 count)) out
+  pub wrote : (out : List ℕ) → splice (at + front_len seq top n) (lowers_bytes top.start (below t n)) (splice at (front_bytes seq top n) out) ≡ splice at (ack_bytes seq (listed t 0 count)) out
 
-module _ (seq : ℕ) (t : List Range) (at m : ℕ) {j : Judgement} {head : ℕ} where
+module _ (seq : ℕ) (t : List Range) (at m : ℕ) {j : Judgement} {top : Range} {head : ℕ} (o : j.top ≡ Some top) where
   at_top : (n : ℕ) → suc n ≤ length t → seq < LIMIT → j ≡ judged_in t (suc n) (m - at) → head ≡ var_len seq + var_len n → all sayable (listed t 0 (suc n)) ≡ true → rising (listed t 0 (suc n)) ≡ true
-      → Good seq t (suc n) n at m j head
+      → Good seq t (suc n) n at m j top head
   unfolding put_ack ack_refusal
   at_top n h k ej eh s r =
       record {
-        sized = rw top y.sized;
-        within = rw top y.within;
+        sized = rw is-top y.sized;
+        within = rw is-top y.within;
         few = omega (arith, y.few, y.sized, y.within);
-        falls = rw top y.falls;
+        falls = rw is-top y.falls;
         named = omega arith;
         small = omega (arith, spare);
         no_room = λ f. let g : m < at + length (ack_bytes seq (listed t 0 (suc n))) = rw long (omega (arith, spare)) in simp (le-ltb _ _ h, lt-leb _ _ k, s, r, lt-ltb _ _ g);
-        fits = λ f. rw top (omega (arith, spare));
+        fits = λ f. rw is-top (omega (arith, spare));
         ends = λ f.
             let g : at + length (ack_bytes seq (listed t 0 (suc n))) ≤ m = rw long (omega (arith, spare)) in
             let q : m - (j.spare - head - 1) ≡ at + length (ack_bytes seq (listed t 0 (suc n))) = rw long (omega (arith, spare)) in
             simp (q, le-ltb _ _ h, lt-leb _ _ k, s, r, le-ltb _ _ g);
-        wrote = λ out. rw top (ap (λ (l : ℕ). splice (at + l) (lowers_bytes (record_at t n).start (below t n)) (splice at (front_bytes seq (record_at t n) n) out)) (sym (length_front seq (record_at t n) n))
+        wrote = λ out. rw is-top (ap (λ (l : ℕ). splice (at + l) (lowers_bytes (record_at t n).start (below t n)) (splice at (front_bytes seq (record_at t n) n) out)) (sym (length_front seq (record_at t n) n))
             ∙ splice-splice at (front_bytes seq (record_at t n) n) (lowers_bytes (record_at t n).start (below t n)) out ∙ ap (λ (bs : List ℕ). splice at bs out) (sym (ack-parts t n seq)));
       }
     where
@@ -145,8 +154,8 @@ module _ (seq : ℕ) (t : List Range) (at m : ℕ) {j : Judgement} {head : ℕ} 
       is : j ≡ reached judged_next (unjudged_in (m - at)) (below t (suc n))
       is = ej ∙ judged-is t (suc n) (m - at) h
 
-      top : j.top ≡ record_at t n
-      top = top-is t n (m - at) is
+      is-top : top ≡ record_at t n
+      is-top = let z = top-is t n (m - at) is in cc
 
       long : length (ack_bytes seq (listed t 0 (suc n))) ≡ front_len seq (record_at t n) n + length (lowers_bytes (record_at t n).start (below t n))
       long = length-ack t n seq
@@ -155,15 +164,15 @@ module _ (seq : ℕ) (t : List Range) (at m : ℕ) {j : Judgement} {head : ℕ} 
       spare = spare-is t n (m - at) is
 
   pub good : (count n : ℕ) → suc n ≡ count → count ≤ length t → seq < LIMIT → j ≡ judged_in t count (m - at) → head ≡ var_len seq + var_len n → all sayable (listed t 0 count) ≡ true → rising (listed t 0 count) ≡ true
-      → Good seq t count n at m j head
+      → Good seq t count n at m j top head
   good count n e =
-      subst (λ (c : ℕ). c ≤ length t → seq < LIMIT → j ≡ judged_in t c (m - at) → head ≡ var_len seq + var_len n → all sayable (listed t 0 c) ≡ true → rising (listed t 0 c) ≡ true → Good seq t c n at m j head) e (at_top n)
+      subst (λ (c : ℕ). c ≤ length t → seq < LIMIT → j ≡ judged_in t c (m - at) → head ≡ var_len seq + var_len n → all sayable (listed t 0 c) ≡ true → rising (listed t 0 c) ≡ true → Good seq t c n at m j top head) e (at_top n)
 
 -- the front is written: what is left of the packet goes after it
-pub front-done : (seq : ℕ) (t : List Range) (count n at : ℕ) (j : Judgement) (head : ℕ) (out : List ℕ) → Good seq t count n at (length out) j head → head < j.spare → {next m : ℕ} {out' : List ℕ}
-    → next ≡ at + front_len seq j.top n → out' ≡ splice at (front_bytes seq j.top n) out → m ≡ length out
-    → FrontOf seq count at t out out' (Ok (record { pen = record { at = next; above = j.top.start }; left = n; next = m - (j.spare - head - 1) }))
-front-done seq t count n at j head out g h e w l =
+pub front-done : (seq : ℕ) (t : List Range) (count n at : ℕ) (j : Judgement) (top : Range) (head : ℕ) (out : List ℕ) → Good seq t count n at (length out) j top head → head < j.spare → {next m : ℕ} {out' : List ℕ}
+    → next ≡ at + front_len seq top n → out' ≡ splice at (front_bytes seq top n) out → m ≡ length out
+    → FrontOf seq count at t out out' (Ok (record { pen = record { at = next; above = top.start }; left = n; next = m - (j.spare - head - 1) }))
+front-done seq t count n at j top head out g h e w l =
     record {
       answer = ap (λ (k : ℕ). done (k - (j.spare - head - 1))) l ∙ g.ends h;
       writable = record { named = g.named; falls = g.falls; limit = omega (arith, g.sized, g.within); room = omega (arith, g.fits h, e) };

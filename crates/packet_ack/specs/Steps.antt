@@ -1,5 +1,5 @@
 -- What the private functions answer, and the ranges as a packet has them: from the highest down. Assumes nothing.
-use Rattle.std.specs.Prelude.{ℕ, zero, suc, ◌+◌, ◌-◌, ◌≤◌, ◌≡◌, Bool, true, false, ◌&&◌, List, [], ◌∷◌, ◌++◌, length, set, ltb, leb, Result, Ok, Err}
+use Rattle.std.specs.Prelude.{ℕ, zero, suc, ◌+◌, ◌-◌, ◌≤◌, ◌≡◌, Bool, true, false, ◌&&◌, List, [], ◌∷◌, ◌++◌, length, set, ltb, leb, Result, Ok, Err, Option, Some, None}
 use Rattle.words.specs.Sizes.{LIMIT}
 use Rattle.words.specs.Choice.{pick}
 use Rattle.words.specs.Lists.{splice, reached}
@@ -138,16 +138,15 @@ pub record Writable (t : List Range) (n : ℕ) (p : Pen) (m : ℕ) : Type 0 wher
 
 -- nothing is judged, and there is some room
 abbrev pub unjudged_in : ℕ → Judgement
-unjudged_in room = record { first = true; sayable = true; rising = false; top = range 0 0; start = 0; spare = room }
+unjudged_in room = record { sayable = true; rising = false; top = None; start = 0; spare = room }
 
 -- what is known once the highest range is judged
 unfoldable pub begun : ℕ → Range → Judgement
 begun room r =
     record {
-      first = false;
       sayable = sayable r;
       rising = ltb r.start r.end;
-      top = r;
+      top = Some r;
       start = r.start;
       spare = room - range_len_of (r.end - 1) r;
     }
@@ -156,7 +155,6 @@ begun room r =
 unfoldable pub stepped : Judgement → Range → Judgement
 stepped j r =
     record {
-      first = false;
       sayable = j.sayable && sayable r;
       rising = j.rising && ltb r.end j.start && ltb r.start r.end;
       top = j.top;
@@ -164,8 +162,13 @@ stepped j r =
       spare = j.spare - range_len_of (j.start - r.end - 1) r;
     }
 
+-- by the highest one so far, if any
+abbrev pub judged_by : Option Range → Judgement → Range → Judgement
+judged_by None j r = begun j.spare r
+judged_by (Some top) j r = stepped j r
+
 abbrev pub judged_next : Judgement → Range → Judgement
-judged_next j r = pick j.first (begun j.spare r) (stepped j r)
+judged_next j r = judged_by j.top j r
 
 -- how many ranges are judged: none, where the table doesn't hold so many
 abbrev pub to_judge : ℕ → ℕ → ℕ

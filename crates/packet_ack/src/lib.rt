@@ -63,12 +63,10 @@ struct Highest {
 // where they don't, they are refused for that, whatever the room.
 #[derive(Clone, Copy)]
 pub struct Judgement {
-    // whether none is judged yet
-    pub first: bool,
     pub sayable: bool,
     pub rising: bool,
-    // the highest of them
-    pub top: Range,
+    // the highest of them, if any is judged yet
+    pub top: Option<Range>,
     // where the lowest of them starts
     pub start: u64,
     // what they leave of the room
@@ -210,10 +208,9 @@ pub fn unjudged(room: usize) -> Judgement
     ensures { result ≡ unjudged_in room }
 {
     Judgement {
-        first: true,
         sayable: true,
         rising: false,
-        top: Range { start: 0, end: 0 },
+        top: None,
         start: 0,
         spare: room as u64,
     }
@@ -225,10 +222,9 @@ fn judge_highest(r: Range, room: u64) -> Judgement
 {
     let len = r.encoded_len(r.end.saturating_sub(1));
     Judgement {
-        first: false,
         sayable: r.is_sayable(),
         rising: r.start < r.end,
-        top: r,
+        top: Some(r),
         start: r.start,
         spare: room.saturating_sub(len),
     }
@@ -241,7 +237,6 @@ fn judge_lower(j: Judgement, r: Range) -> Judgement
     let gap = j.start.saturating_sub(r.end).saturating_sub(1);
     let len = r.encoded_len(gap);
     Judgement {
-        first: false,
         sayable: j.sayable & r.is_sayable(),
         rising: j.rising & (r.end < j.start) & (r.start < r.end),
         top: j.top,
@@ -254,10 +249,10 @@ fn judge_lower(j: Judgement, r: Range) -> Judgement
 fn judge_range(j: Judgement, r: Range) -> Judgement
     ensures { result ≡ judged_next j r }
 {
-    if j.first {
-        return judge_highest(r, j.spare);
+    match j.top {
+        None => judge_highest(r, j.spare),
+        Some(_) => judge_lower(j, r),
     }
-    judge_lower(j, r)
 }
 
 // Judges the ranges of the first n records, from the highest down.
@@ -346,6 +341,9 @@ pub fn put_front(
     if !j.sayable {
         return Err(Refusal::BadNumber);
     }
+    let Some(top) = j.top else {
+        return Err(Refusal::InvalidAckRange);
+    };
     if !j.rising {
         return Err(Refusal::InvalidAckRange);
     }
@@ -356,7 +354,6 @@ pub fn put_front(
     if spare <= head {
         return Err(Refusal::BufferTooShort);
     }
-    let top = j.top;
     let at = write_front(out, at, seq, top, left);
     let above = top.start;
     Ok(Front {

@@ -7,7 +7,7 @@ use lib.ListN.{length}
 use Rattle.octets.specs.Varint.{var_len}
 use Rattle.packet_ack.specs.Ack.{Range}
 use Rattle.packet_ack.specs.Steps.{judged_in}
-use Rattle.packet_ack.proofs.Encode.{un-not, some-range, no_front, bad-table, bad-seq, bad-range, not-rising, all-sayable, all-rising, Good, good, front-done}
+use Rattle.packet_ack.proofs.Encode.{un-not, some-range, no_front, bad-table, bad-seq, bad-range, no-range, not-rising, all-sayable, all-rising, Good, good, front-done}
 use Rattle.packet_ack.proofs.put_front.Goals as goal
 use Rattle.packet_ack.proofs.put_front.Goals.{After-form_len-2, Else-not-j-2}
 
@@ -19,11 +19,11 @@ some c =
 -- of any table that was judged so, with so many bytes for the sequence and for the number of lower ranges
 good-at : (c : Else-not-j-2) (t : List Range) → length t ≡ c.args.held → c.args.j ≡ judged_in t c.args.packet.count (length c.args.out.now - c.args.at)
     → {head : ℕ} → head ≡ var_len c.args.packet.sequence.0 + var_len (c.args.packet.count - 1)
-    → Good c.args.packet.sequence.0 t c.args.packet.count (c.args.packet.count - 1) c.args.at (length c.args.out.now) c.args.j head
+    → Good c.args.packet.sequence.0 t c.args.packet.count (c.args.packet.count - 1) c.args.at (length c.args.out.now) c.args.j c.in-Some.top head
 good-at c t l e eh =
     let h = c.if-held-count.false in
     let k = c.if-seq-ge-LIMIT.false in
-    good _ t _ _ _ _ (omega (arith, some c)) (omega (arith, l, h)) k e eh (all-sayable _ t _ _ _ (omega (arith, l, h)) k e (un-not _ c.if-not-j.false)) (all-rising _ t _ _ _ (omega (arith, l, h)) k e (un-not _ c.if-not-j.false) (un-not _ c.if-not-j-2.false))
+    good _ t _ _ c.in-Some.is _ _ (omega (arith, some c)) (omega (arith, l, h)) k e eh (all-sayable _ t _ _ _ (omega (arith, l, h)) k e (un-not _ c.if-not-j.false)) (all-rising _ t _ _ _ (omega (arith, l, h)) k e (un-not _ c.if-not-j.false) (un-not _ c.if-not-j-2.false))
 
 head-is : (c : After-form_len-2)
     → c.form_len.result + c.form_len-2.result ≡ var_len c.args.packet.sequence.0 + var_len (c.args.packet.count - 1)
@@ -37,6 +37,9 @@ returns-then-seq-ge-LIMIT c = λ t l e. no_front _ _ _ t _ _ (bad-seq _ t _ _ _ 
 
 pub returns-then-not-j : goal.returns-then-not-j
 returns-then-not-j c = λ t l e. no_front _ _ _ t _ _ (bad-range _ t _ _ _ (omega (arith, l, c.if-held-count.false)) c.if-seq-ge-LIMIT.false e (un-not _ c.if-not-j.true))
+
+pub returns-in_default : goal.returns-in_default
+returns-in_default c = λ t l e. no_front _ _ _ t _ _ (no-range _ t _ _ _ (omega (arith, l, c.if-held-count.false)) c.if-seq-ge-LIMIT.false e (un-not _ c.if-not-j.false) c.in_default.is)
 
 pub returns-then-not-j-2 : goal.returns-then-not-j-2
 returns-then-not-j-2 c = λ t l e. no_front _ _ _ t _ _ (not-rising _ t _ _ _ (omega (arith, l, c.if-held-count.false)) c.if-seq-ge-LIMIT.false e (un-not _ c.if-not-j.false) (un-not _ c.if-not-j-2.true))
@@ -63,4 +66,4 @@ pub returns : goal.returns
 returns c =
     λ t l e.
     let w = c.write_front-at.ensures in
-    front-done _ t _ _ _ _ _ _ (good-at (goal.at.returns c).Else-not-j-2 t l e (head-is (goal.at.returns c).After-form_len-2)) c.if-spare-head.false w.0 w.1 c.write_front-at.auto.out
+    front-done _ t _ _ _ _ _ _ _ (good-at (goal.at.returns c).Else-not-j-2 t l e (head-is (goal.at.returns c).After-form_len-2)) c.if-spare-head.false w.0 w.1 c.write_front-at.auto.out
