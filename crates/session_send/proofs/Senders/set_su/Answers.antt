@@ -1,7 +1,7 @@
--- `session_send::with_sr` meets its contract: by what it is to be sound. Assumes nothing.
+-- `Senders::set_su` meets its contract: by what it is to be sound. Assumes nothing.
 use borrow.Author.Rules.{rules}
 use Rattle.session_send.specs.Sound.{Sound}
-use Rattle.session_send.proofs.with_sr.Goals as goal
+use Rattle.session_send.proofs.Senders.set_su.Goals as goal
 
 pub returns : goal.returns
 unfolding Sound

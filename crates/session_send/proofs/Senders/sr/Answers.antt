@@ -1,7 +1,7 @@
--- `session_send::su_of` meets its contract: by what it is to be sound. Assumes nothing.
+-- `Senders::sr` meets its contract: by what it is to be sound. Assumes nothing.
 use borrow.Author.Rules.{rules}
 use Rattle.session_send.specs.Sound.{Sound}
-use Rattle.session_send.proofs.su_of.Goals as goal
+use Rattle.session_send.proofs.Senders.sr.Goals as goal
 
 pub returns : goal.returns
 unfolding Sound
