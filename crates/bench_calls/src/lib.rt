@@ -1,7 +1,7 @@
 #![tactic(auto)]
 // What bench/ measures: each call is one scenario, on ends of its own. The answers are sums, by which
 // the program there sees that the work was done.
-ghost use Rattle.std.specs.Prelude.{◌≡◌, length};
+ghost use Rattle.std.specs.Prelude.{◌≡◌, ◌<◌, ◌+◌, ℕ, List, length};
 ghost use Rattle.octets.specs.Writer.{put_of};
 ghost use Rattle.packet.specs.Packet.{decoded_of};
 ghost use Rattle.pack.specs.Round.{went_of};
@@ -9,14 +9,14 @@ ghost use Rattle.send_reliable.specs.Sender as sr;
 ghost use Rattle.send_unreliable.specs.Sender as su;
 ghost use Rattle.receive_reliable.specs.Receive as rr;
 ghost use Rattle.receive_unreliable.specs.Receive as ru;
-ghost use Rattle.bench_calls.specs.Times.{Times, Filled};
+ghost use Rattle.bench_calls.specs.Times.{Times, Filled, Held, held};
+ghost use Rattle.bench_calls.specs.Calls.{Takes, Steps, TakesAt, StepsAt, TakesAtBoth, StepsAtBoth};
 ghost use Rattle.bench_calls.specs.Packets.{sample_of, written_of, used_of, WriteGives, ReadGives};
 ghost use Rattle.bench_calls.specs.Ends as ends;
 
 use channel::Settings;
-use octets::Put;
-use pack::Went;
-use packet::{Decoded, Packet};
+use pack::Written;
+use packet::Packet;
 use packet_ack::{Ack, Range};
 use packet_slice::Slice;
 use packet_small::Small;
@@ -24,7 +24,7 @@ use receive_reliable::ReceiveChannelReliable;
 use receive_unreliable::ReceiveChannelUnreliable;
 use send_reliable::SendChannelReliable;
 use send_unreliable::SendChannelUnreliable;
-use words::{LANES, MAX_MEMORY, MessageId, PIECES, SLOTS, Sequence, SliceIndex};
+use words::{LANES, MAX_MEMORY, MessageId, PIECES, Refusal, SLOTS, Sequence, SliceIndex};
 
 // Enough for everything that waits.
 const ALLOWANCE: u64 = 1_000_000;
@@ -38,7 +38,8 @@ const LARGEST: Settings = Settings {
 
 // ---- packets
 
-// A packet of each kind: the first messages or ranges of a table, or a piece of n bytes.
+// A packet of each kind: the first messages or ranges of a table, or a piece of n bytes. The kind is a number
+// since the C interface takes no enum.
 fn sample(kind: u8, count: usize, n: usize) -> Packet
     ensures { result ≡ sample_of kind count n }
 {
@@ -67,13 +68,10 @@ fn sample(kind: u8, count: usize, n: usize) -> Packet
 }
 
 // How many bytes a packet has, or 0 where it was refused.
-fn written(answer: Put) -> usize
+fn written(answer: Result<usize, Refusal>) -> usize
     ensures { result ≡ written_of (put_of answer) }
 {
-    let Put::To(n) = answer else {
-        return 0;
-    };
-    n
+    answer.unwrap_or(0)
 }
 
 #[unsafe(no_mangle)]
@@ -92,13 +90,13 @@ pub extern "C" fn bench_write(
 }
 
 // How many bytes a packet used, or 0 where it was refused.
-fn used(answer: Decoded) -> usize
+fn used(answer: Result<(Packet, usize), Refusal>) -> usize
     ensures { result ≡ used_of (decoded_of answer) }
 {
-    let Decoded::Whole(_, n) = answer else {
-        return 0;
-    };
-    n
+    match answer {
+        Ok((_, n)) => n,
+        Err(_) => 0,
+    }
 }
 
 #[unsafe(no_mangle)]
@@ -106,6 +104,58 @@ pub extern "C" fn bench_read(bytes: &[u8], messages: &mut [u64], ranges: &mut [R
     ensures { ReadGives bytes.now messages.old ranges.old messages.new ranges.new result }
 {
     used(packet::from_bytes(bytes, messages, ranges))
+}
+
+// ---- calls one after the other
+
+// So many steps from a state, each told its number.
+fn times<S, F: Fn(S, usize) -> S>(first: S, count: usize, step: F) -> S
+    requires begins { Takes F.Fn step first 0 }
+    requires goes_on { (k : ℕ) (s t : S) → k + 1 < count → Steps F.Fn step k s t → Takes F.Fn step t (k + 1) }
+    ensures { Times (Steps F.Fn step) count first result }
+{
+    let mut state = first;
+    for k in 0..count {
+        state = step(state, k);
+    }
+    state
+}
+
+// The same, where each step is lent a store.
+fn times_at<S, F: Fn(S, usize, &mut [u8]) -> S>(
+    first: S,
+    count: usize,
+    store: &mut [u8],
+    step: F,
+) -> S
+    requires begins { TakesAt F.Fn step first 0 }
+    requires goes_on { (k : ℕ) (a b : S × List ℕ) → k + 1 < count → StepsAt F.Fn step k a b → TakesAt F.Fn step b.0 (k + 1) }
+    ensures { Times (StepsAt F.Fn step) count (first, store.old) (result, store.new) }
+{
+    let mut state = first;
+    for k in 0..count {
+        state = step(state, k, store);
+    }
+    state
+}
+
+// The same, where each step is lent two stores.
+fn times_at_both<S, F: Fn(S, usize, &mut [u8], &mut [u8]) -> S>(
+    first: S,
+    count: usize,
+    small: &mut [u8],
+    lanes: &mut [u8],
+    step: F,
+) -> S
+    requires begins { TakesAtBoth F.Fn step first 0 }
+    requires goes_on { (k : ℕ) (a b : Held S) → k + 1 < count → StepsAtBoth F.Fn step k a b → TakesAtBoth F.Fn step b.state (k + 1) }
+    ensures { Times (StepsAtBoth F.Fn step) count (held first small.old lanes.old) (held result small.new lanes.new) }
+{
+    let mut state = first;
+    for k in 0..count {
+        state = step(state, k, small, lanes);
+    }
+    state
 }
 
 // ---- the reliable sender
@@ -120,14 +170,9 @@ fn sr_queued(
     ensures { Filled ends.SrNew (ends.SrQueues message.now) count small.old lanes.old small.new lanes.new result × sr.Valid result }
 {
     let made = SendChannelReliable::new(0, LARGEST, 0);
-    let mut state = made.state;
-    let mut i = 0;
-    while i < count {
-        let queued = state.send_message(message, small, lanes);
-        state = queued.state;
-        i += 1;
-    }
-    state
+    times_at_both(made.state, count, small, lanes, |s, _, small, lanes| {
+        s.send_message(message, small, lanes).state
+    })
 }
 
 // Acknowledges the first messages.
@@ -135,14 +180,9 @@ fn sr_acked(first: SendChannelReliable, count: usize) -> SendChannelReliable
     requires { sr.Valid first }
     ensures { Times ends.SrAcks count first result × sr.Valid result }
 {
-    let mut state = first;
-    let mut i = 0;
-    while i < count {
-        let acked = state.process_message_ack(MessageId(i as u64));
-        state = acked.state;
-        i += 1;
-    }
-    state
+    times(first, count, |s, k| {
+        s.process_message_ack(MessageId(k as u64)).state
+    })
 }
 
 // Acknowledges the first pieces of message 0.
@@ -150,14 +190,10 @@ fn sr_acked_pieces(first: SendChannelReliable, count: usize) -> SendChannelRelia
     requires { sr.Valid first }
     ensures { Times ends.SrAcksPiece count first result × sr.Valid result }
 {
-    let mut state = first;
-    let mut i = 0;
-    while i < count {
-        let acked = state.process_slice_message_ack(MessageId(0), SliceIndex(i as u64));
-        state = acked.state;
-        i += 1;
-    }
-    state
+    times(first, count, |s, k| {
+        s.process_slice_message_ack(MessageId(0), SliceIndex(k as u64))
+            .state
+    })
 }
 
 #[unsafe(no_mangle)]
@@ -190,16 +226,17 @@ pub extern "C" fn bench_sr_pieces(
 }
 
 // How many packets a round had.
-fn packets_of(answer: Went) -> usize
+fn packets_of(answer: Result<Written, Refusal>) -> usize
     ensures { result ≡ ends.packets_said (went_of answer) }
 {
-    let Went::Sent(written) = answer else {
-        return 0;
-    };
-    written.packets
+    match answer {
+        Ok(written) => written.packets,
+        Err(_) => 0,
+    }
 }
 
 // Sends all that waits so many times, and answers how many packets the last round had.
+// A loop of its own: no other step is lent a table of words, and answers a number beside the state.
 fn sr_sent(
     first: SendChannelReliable,
     rounds: usize,
@@ -213,13 +250,10 @@ fn sr_sent(
 {
     let mut state = first;
     let mut packets = 0;
-    let mut i = 0;
-    while i < rounds {
+    for _ in 0..rounds {
         let round = state.get_packets_to_send(Sequence(0), 0, ALLOWANCE, small, lanes, out, table);
-        let answer = round.answer;
-        packets = packets_of(answer);
+        packets = packets_of(round.answer);
         state = round.state;
-        i += 1;
     }
     packets
 }
@@ -252,14 +286,9 @@ fn su_queued(
     ensures { Filled ends.SuNew (ends.SuQueues message.now) count small.old lanes.old small.new lanes.new result × su.Valid result }
 {
     let made = SendChannelUnreliable::new(0, LARGEST);
-    let mut state = made.state;
-    let mut i = 0;
-    while i < count {
-        let queued = state.send_message(message, small, lanes);
-        state = queued.state;
-        i += 1;
-    }
-    state
+    times_at_both(made.state, count, small, lanes, |s, _, small, lanes| {
+        s.send_message(message, small, lanes).state
+    })
 }
 
 #[unsafe(no_mangle)]
@@ -304,14 +333,10 @@ fn rr_received(
     ensures { Filled ends.RrNew (ends.RrHears message.now) count small.old lanes.now small.new lanes.now result × rr.Valid result }
 {
     let made = ReceiveChannelReliable::new(LARGEST);
-    let mut state = made.state;
-    let mut i = 0;
-    while i < count {
-        let arrived = state.process_message(MessageId(i as u64), message, small, lanes);
-        state = arrived.state;
-        i += 1;
-    }
-    state
+    times_at(made.state, count, small, |s, k, small| {
+        s.process_message(MessageId(k as u64), message, small, lanes)
+            .state
+    })
 }
 
 // A receiver that all pieces of message 0 came to, each with the same bytes.
@@ -324,16 +349,11 @@ fn rr_collected(
     ensures { Filled ends.RrNew (ends.RrCollects count payload.now) count small.now lanes.old small.now lanes.new result × rr.Valid result }
 {
     let made = ReceiveChannelReliable::new(LARGEST);
-    let mut state = made.state;
-    let num = count as u64;
-    let mut i = 0;
-    while i < count {
-        let index = SliceIndex(i as u64);
-        let arrived = state.process_slice(MessageId(0), index, num, payload, small, lanes);
-        state = arrived.state;
-        i += 1;
-    }
-    state
+    times_at(made.state, count, lanes, |s, k, lanes| {
+        let index = SliceIndex(k as u64);
+        s.process_slice(MessageId(0), index, count as u64, payload, small, lanes)
+            .state
+    })
 }
 
 // Takes so many messages out.
@@ -341,14 +361,7 @@ fn rr_taken(first: ReceiveChannelReliable, count: usize) -> ReceiveChannelReliab
     requires { rr.Valid first }
     ensures { Times ends.RrTakes count first result × rr.Valid result }
 {
-    let mut state = first;
-    let mut i = 0;
-    while i < count {
-        let received = state.receive_message();
-        state = received.state;
-        i += 1;
-    }
-    state
+    times(first, count, |s, _| s.receive_message().state)
 }
 
 #[unsafe(no_mangle)]
@@ -393,14 +406,9 @@ fn ru_received(
     ensures { Filled ends.RuNew (ends.RuHears message.now) count small.old lanes.now small.new lanes.now result × ru.Valid result }
 {
     let made = ReceiveChannelUnreliable::new(LARGEST);
-    let mut state = made.state;
-    let mut i = 0;
-    while i < count {
-        let arrived = state.process_message(message, small, lanes);
-        state = arrived.state;
-        i += 1;
-    }
-    state
+    times_at(made.state, count, small, |s, _, small| {
+        s.process_message(message, small, lanes).state
+    })
 }
 
 // A receiver that all pieces of message 0 came to, each with the same bytes.
@@ -413,16 +421,11 @@ fn ru_collected(
     ensures { Filled ends.RuNew (ends.RuCollects count payload.now) count small.now lanes.old small.now lanes.new result × ru.Valid result }
 {
     let made = ReceiveChannelUnreliable::new(LARGEST);
-    let mut state = made.state;
-    let num = count as u64;
-    let mut i = 0;
-    while i < count {
-        let index = SliceIndex(i as u64);
-        let arrived = state.process_slice(MessageId(0), index, num, payload, 0, small, lanes);
-        state = arrived.state;
-        i += 1;
-    }
-    state
+    times_at(made.state, count, lanes, |s, k, lanes| {
+        let index = SliceIndex(k as u64);
+        s.process_slice(MessageId(0), index, count as u64, payload, 0, small, lanes)
+            .state
+    })
 }
 
 // Takes so many messages out.
@@ -430,14 +433,7 @@ fn ru_taken(first: ReceiveChannelUnreliable, count: usize) -> ReceiveChannelUnre
     requires { ru.Valid first }
     ensures { Times ends.RuTakes count first result × ru.Valid result }
 {
-    let mut state = first;
-    let mut i = 0;
-    while i < count {
-        let received = state.receive_message();
-        state = received.state;
-        i += 1;
-    }
-    state
+    times(first, count, |s, _| s.receive_message().state)
 }
 
 #[unsafe(no_mangle)]

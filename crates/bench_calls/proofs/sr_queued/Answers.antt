@@ -1,27 +1,11 @@
--- `bench_calls::sr_queued` meets its contract: each turn is one message more in the sender. Assumes nothing.
-use mathlib.Core.Path.{refl}
-use native.Mathlib.Omega.{arith}
-use Rattle.bench_calls.proofs.Laws.{begins, goes_on, ends, left}
+-- `bench_calls::sr_queued` meets its contract: each step is one message more in the sender. Assumes nothing.
+use Rattle.std.proofs.Common.{rules}
+use Rattle.send_reliable.specs.Sender.{Valid}
+use Rattle.bench_calls.proofs.Laws.{carried-at-both, left, kept}
 use Rattle.bench_calls.proofs.sr_queued.Goals as goal
-
-pub new-made-requires : goal.new-made-requires
-new-made-requires c = tt
-
-pub loop-i-init : goal.loop-i-init
-loop-i-init c = begins (record { small-long = refl; lanes-long = refl; valid = c.new-made.ensures.valid })
-
-pub send_message-queued-requires : goal.send_message-queued-requires
-send_message-queued-requires c = c.loop-i.invariant.keeps.valid
-
-pub loop-i-preserved : goal.loop-i-preserved
-loop-i-preserved c =
-    let call = c.send_message-queued in
-    goes_on c.loop-i.invariant (omega arith)
-    (record { small-long = omega arith; lanes-long = omega arith; valid = call.ensures.valid })
-    (left call.result call.ensures)
 
 pub returns : goal.returns
 returns c =
     let made = c.new-made in
-    let turns = c.loop-i.invariant in
-    (record { new = made.result.state; made = left made.result made.ensures; fills = ends turns (omega arith) }, turns.keeps.valid)
+    let calls = carried-at-both Valid (λ k s t m l m' l' v p. kept Valid (λ r g. g.valid) (search rules)) made.ensures.valid c.times_at_both.ensures in
+    (record { new = made.result.state; made = left made.result made.ensures; fills = calls.0 }, calls.1)

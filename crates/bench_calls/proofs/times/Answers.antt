@@ -1,0 +1,18 @@
+-- `bench_calls::times` meets its contract: each turn is one step. Assumes nothing.
+use mathlib.Core.Path.{◌≡◌}
+use native.Mathlib.Omega.{arith}
+use native.Mathlib.Numerals.{add-one}
+use Rattle.bench_calls.specs.Times.{none, more}
+use Rattle.bench_calls.specs.Calls.{Steps}
+use Rattle.bench_calls.proofs.times.Goals as goal
+
+pub loop-k-init : goal.loop-k-init
+loop-k-init g c = (none, λ _. c.requires.begins)
+
+pub loop-k-preserved : goal.loop-k-preserved
+loop-k-preserved g c =
+    let went : Steps _ _ _ _ _ = record { met = c.step-state.ensures } in
+    (rw add-one (more c.loop-k.invariant.0 went), λ lt. c.requires.goes_on _ _ _ lt went)
+
+pub returns : goal.returns
+returns g c = let all : c.args.count ≡ c.loop-k.k = omega arith in rw all c.loop-k.invariant.0
