@@ -3,11 +3,13 @@ use Prim.Native.Nat.{ℕ, ◌+◌, ◌-◌, ◌≤◌, ◌<◌}
 use mathlib.Core.Path.{◌≡◌, refl, sym, ap, ◌∙◌}
 use mathlib.Core.Bool.{Bool, true}
 use mathlib.Core.List.{List, [], ◌∷◌, ◌++◌, append_assoc}
+use native.Mathlib.Numerals.{add-one}
 use native.Mathlib.Omega.{arith}
 use borrow.Author.Tests.{lt-ltb, le-ltb, lt-leb, leb-false}
 use lib.Dec.{ltb, leb}
-use lib.ListN.{length, set, drop, length-append, length-drop}
-use lib.Seq.{get_or-take, get_or_at, length-take-le}
+use lib.ListN.{length, set, take, drop, length-append, length-drop}
+use lib.Seq.{get_or-take, get_or_at, drop-cons, length-take-le}
+use Rattle.std.proofs.lemmas.List.{take-append-drop}
 use Rattle.words.specs.Sizes.{LIMIT}
 use Rattle.words.specs.Choice.{pick}
 use Rattle.words.proofs.Tables.{by-test}
@@ -18,7 +20,7 @@ use Rattle.pending_acks.specs.declared.PendingAcks.{PendingAcks}
 use Rattle.pending_acks.specs.Gather.{range, Rising, inserted, kept, filled, gatherer, ranges_of, Valid, gathered, added}
 use Rattle.pending_acks.specs.Steps.{moved, Swapped, Joined, Opened}
 use Rattle.pending_acks.proofs.Tables.{length-filled, gone, come, turned, changes, ranges-filled}
-use Rattle.pending_acks.proofs.Ranges.{rising-drop, rising-inserted}
+use Rattle.pending_acks.proofs.Ranges.{rising-drop, rising-one, rising-inserted}
 
 -- ---- a gatherer of ranges is valid, and has these ranges
 
@@ -46,12 +48,16 @@ pub kept-all : (rs : List Range) (d : Bool) → length rs ≤ RANGES → gathere
 unfolding gathered
 kept-all rs d h = let e : length rs - RANGES ≡ 0 = omega arith in rw (e, le-ltb RANGES (length rs) h)
 
+pub gathered-valid : (rs : List Range) (d : Bool) → Rising 0 rs → Valid (gathered rs d)
+unfolding gathered
+gathered-valid rs d w = gatherer-valid (kept rs) (pick (ltb RANGES (length rs)) true d) (few-kept rs) (rising-drop (length rs - RANGES) 0 rs w)
+
 pub added-valid : (g : PendingAcks) (x : ℕ) → Valid g → Valid (added g x)
-unfolding added gathered
+unfolding added
 added-valid g x v =
     by-test (leb LIMIT x)
     (λ t. rw t v)
-    (λ t. rw t (gatherer-valid (kept (inserted x (ranges_of g))) (pick (ltb RANGES (length (inserted x (ranges_of g)))) true g.dropped) (few-kept (inserted x (ranges_of g))) (rising-drop (length (inserted x (ranges_of g)) - RANGES) 0 (inserted x (ranges_of g)) (rising-inserted 0 x (ranges_of g) (omega arith) (leb-false _ _ t) v.rises))))
+    (λ t. rw t (gathered-valid (inserted x (ranges_of g)) g.dropped (rising-inserted 0 x (ranges_of g) (omega arith) (leb-false _ _ t) v.rises)))
 
 pub added-below : (g : PendingAcks) (x : ℕ) → x < LIMIT → added g x ≡ gathered (inserted x (ranges_of g)) g.dropped
 unfolding added
@@ -63,6 +69,9 @@ pub gatherer-is : (g : PendingAcks) (rs : List Range) (d : Bool) → g.count ≡
 unfolding gatherer
 gatherer-is g rs d a b r = λ i. record { count = a i; dropped = b i; ranges = r i }
 
+drop-record : (rs : List Range) (k : ℕ) → k < length rs → drop k rs ≡ record_at rs k ∷ drop (k + 1) rs
+drop-record rs k h = rw add-one (drop-cons rs k (range 0 0) h)
+
 module _ (g : PendingAcks) (v : Valid g) where
   table-is : g.ranges ≡ filled RANGES (ranges_of g)
   unfolding gatherer
@@ -73,6 +82,10 @@ module _ (g : PendingAcks) (v : Valid g) where
 
   pub count-is : length (ranges_of g) ≡ g.count
   count-is = let h = v.few in let l = table-long in length-take-le g.count g.ranges (omega arith)
+
+  -- one sequence more leaves it valid
+  pub more-valid : {s : PendingAcks} (x : ℕ) → x < LIMIT → s ≡ gathered (inserted x (ranges_of g)) g.dropped → Valid s
+  more-valid x h e = rw e (gathered-valid (inserted x (ranges_of g)) g.dropped (rising-inserted 0 x (ranges_of g) (omega arith) h v.rises))
 
   -- ---- no range changed
 
@@ -172,6 +185,28 @@ module _ (g : PendingAcks) (v : Valid g) where
     joined_is t p =
         let c = count-joined in
         gatherer-is (record { count = g.count - 1; dropped = g.dropped; ranges = t }) rs g.dropped (omega arith) refl (p ∙ joined-table)
+
+    pub joined-valid : {s : PendingAcks} → s ≡ gatherer rs g.dropped → Valid s
+    joined-valid e = rw e (gatherer-valid rs g.dropped few-joined (rw j.is (rising-one 0 j.before j.after j.lower j.upper (rw j.was at v.rises))))
+
+  -- where there are two to join
+  pub neighbours : {k : ℕ} → k + 1 < g.count → (qs : List Range) × Joined (ranges_of g) qs k
+  neighbours {k} h =
+      let rs = ranges_of g in
+      let c = count-is in (
+        take k rs ++ range (record_at rs k).start (record_at rs (k + 1)).end ∷ drop (k + 1 + 1) rs,
+        record {
+          before = take k rs;
+          lower = record_at rs k;
+          upper = record_at rs (k + 1);
+          after = drop (k + 1 + 1) rs;
+          was =
+              sym (take-append-drop k rs)
+              ∙ ap (λ (l : List Range). take k rs ++ l) (drop-record rs k (omega arith) ∙ ap (λ (l : List Range). record_at rs k ∷ l) (drop-record rs (k + 1) (omega arith)));
+          is = refl;
+          place = length-take-le k rs (omega arith);
+        },
+      )
 
   -- ---- one range more
 

@@ -8,6 +8,7 @@ ghost use Rattle.pending_acks.specs.Gather.{range, Valid, Rising, ranges_of, gat
 ghost use Rattle.pending_acks.specs.Steps.{moved, Placed, starts_at_of, Joined, Opened, SpotFor};
 
 use packet_ack::{Ack, RANGES, Range};
+use std::marker::Model;
 use words::{After, LIMIT, Refusal, Sequence};
 
 // What stands in the table behind the ranges.
@@ -19,6 +20,22 @@ pub struct PendingAcks {
     count: usize,
     dropped: bool,
     ranges: [Range; RANGES],
+}
+
+// A contract sees its fields, of which `Valid` is always true.
+impl Model for PendingAcks {
+    ghost use Rattle.pending_acks.specs.State.{State};
+
+    ghost Value = { State };
+
+    ghost use Rattle.pending_acks.specs.Gather.{Valid};
+    ghost use Rattle.pending_acks.specs.Fields.{state_of, fields_of};
+
+    ghost view = { state_of };
+
+    ghost invariant = { λ a. Valid (state_of a) };
+
+    ghost inverse = { fields_of };
 }
 
 // Whether a sequence was added, and the ranges then.
@@ -53,17 +70,17 @@ impl PendingAcks {
 
     // Takes up the sequence of a packet that arrived.
     pub fn add_pending_ack(mut self, sequence: Sequence) -> Added
-        requires { Valid self }
         ensures { AddGives self sequence.0 result }
     {
         let x = sequence.0;
+        // Read before the test: what is handed back is promised to be valid on a refusal too.
+        let count = self.count;
         if LIMIT <= x {
             return After {
                 answer: Err(Refusal::BadNumber),
                 state: self,
             };
         }
-        let count = self.count;
         let spot = find_spot(&self.ranges[..count], x);
         self.take_up(spot, x);
         After {
@@ -74,7 +91,6 @@ impl PendingAcks {
 
     // Whether a sequence is named: the last range that starts at or below it tells.
     pub fn is_named(self, sequence: Sequence) -> Result<bool, Refusal>
-        requires { Valid self }
         ensures { reply_of result ≡ reply (ranges_of self) sequence.0 }
     {
         let x = sequence.0;
@@ -91,7 +107,6 @@ impl PendingAcks {
 
     // How many ranges there are.
     pub fn count(self) -> usize
-        requires { Valid self }
         ensures { result ≡ length (ranges_of self) }
     {
         self.count
@@ -106,7 +121,6 @@ impl PendingAcks {
 
     // Writes the packet that names all ranges to a place, or refuses and changes nothing.
     pub fn to_bytes(self, out: &mut [u8], at: usize, sequence: Sequence) -> Result<usize, Refusal>
-        requires { Valid self }
         ensures { PacketGives self sequence.0 at out.old out.new result }
     {
         let count = self.count;
@@ -116,9 +130,11 @@ impl PendingAcks {
 
     // Names a sequence too, at the spot where it goes.
     fn take_up(&mut self, spot: Spot, x: u64)
-        requires { Valid self.old × (x < LIMIT) × SpotFor (ranges_of self.old) x spot }
+        requires { (x < LIMIT) × SpotFor (ranges_of self.old) x spot }
         ensures { self.new ≡ gathered (inserted x (ranges_of self.old)) self.old.dropped }
     {
+        // Opened before the arms: what is always true of the ranges bounds the index.
+        let _ = &self.ranges;
         match spot {
             Spot::Named => {}
             Spot::Above(k) => self.ranges[k].end = x + 1,
@@ -130,7 +146,7 @@ impl PendingAcks {
 
     // The k-th range and the next as one.
     fn join(&mut self, k: usize)
-        requires { Valid self.old × (k + 1 < self.old.count) }
+        requires { k + 1 < self.old.count }
         ensures { (rs : List Range) → Joined (ranges_of self.old) rs k → self.new ≡ gatherer rs self.old.dropped }
     {
         let last = self.count - 1;
@@ -141,8 +157,8 @@ impl PendingAcks {
 
     // One range more, of a sequence alone, above k others. A 65th drops the lowest, which may be the newcomer.
     fn open(&mut self, k: usize, x: u64)
-        requires { Valid self.old × (k ≤ self.old.count) × (x < LIMIT) }
-        ensures { (rs : List Range) → Opened (ranges_of self.old) rs k (range x (x + 1)) → self.new ≡ gathered rs self.old.dropped }
+        requires { (x < LIMIT) × Opened (ranges_of self.old) (inserted x (ranges_of self.old)) k (range x (x + 1)) }
+        ensures { self.new ≡ gathered (inserted x (ranges_of self.old)) self.old.dropped }
     {
         let newcomer = Range {
             start: x,

@@ -3,4 +3,4 @@ use Rattle.pending_acks.proofs.Packets.{packet-wrote}
 use Rattle.pending_acks.proofs.PendingAcks.to_bytes.Goals as goal
 
 pub returns : goal.returns
-returns c = packet-wrote _ c.requires _ _ _ c.put_ack.ensures
+returns c = rw (← c.self.view_is) (packet-wrote _ c.self.invariant _ _ _ c.put_ack.ensures)
