@@ -234,7 +234,8 @@ fn seen(r: &Receivers, t: Turn) -> Stores {
     r.unreliable_lent
 }
 
-// Answers a call with what it sees of the stores.
+// Answers a call with what it sees of the stores. These and the page are lent one by one, here and below:
+// of a struct of them behind a reference, the check has no rule for two fields lent to a call at once.
 fn made(
     r: &mut Receivers,
     t: Turn,
