@@ -28,7 +28,7 @@ use Rattle.send_reliable.specs.Sender.{kind_of, no_row, live, piece_at, Valid}
 use Rattle.words.specs.Lists.{without as less}
 use Rattle.send_reliable.specs.Ack.{row_of, closed, without, ack_of, done, After, after, ack_row, ack_small, marked, with_ack, ack_piece, AckGives}
 use Rattle.send_reliable.specs.QueueSteps.{found_of, RowAt, Waits}
-use Rattle.send_reliable.proofs.Valid.{live-long, without-small-valid, without-sliced-valid, marked-valid}
+use Rattle.send_reliable.proofs.Valid.{rows-room, live-long, without-small-valid, without-sliced-valid, marked-valid}
 
 -- ---- the rows that wait close up, and those after them stay
 
@@ -54,13 +54,41 @@ closed-front rows k n low long =
     let b : drop n t ≡ [] = drop_all n t (omega arith) in
     rw (l, closed-parts t k n no_row low (omega arith), a, b, append_assoc, closed-parts rows k n no_row low long)
 
+-- the state with some other rows, n of them waiting, and these cells and lanes
+abbrev pub with_rows : SendChannelReliable → ℕ → List Row → ℕ → List Bool → List Bool → SendChannelReliable
+with_rows s used rows n cells lanes =
+    record {
+      channel_id = s.channel_id;
+      settings = s.settings;
+      resend_time = s.resend_time;
+      next_reliable_message_id = s.next_reliable_message_id;
+      memory_usage_bytes = used;
+      latest = s.latest;
+      count = n;
+      rows = rows;
+      cells = cells;
+      lanes = lanes;
+      pieces = s.pieces;
+    }
+
+-- where the waiting rows close up
+module _ (s : SendChannelReliable) (v : Valid s) (k : ℕ) (r : Row) (at : RowAt s k r) (cells lanes : List Bool) where
+  pub taken : (rows : List Row) (n : ℕ) → rows ≡ closed (take s.count s.rows) k (length (take s.count s.rows)) → n ≡ length (take s.count s.rows) - 1
+      → with_rows s (s.memory_usage_bytes - r.len) (rows ++ drop s.count s.rows) n cells lanes ≡ without s k r.len cells lanes
+  taken rows n e f =
+      let room = rows-room s v in
+      let m : n ≡ s.count - 1 = f ∙ ap (λ (x : ℕ). x - 1) (length-take-le s.count s.rows room) in
+      ap (λ (x : List Row). with_rows s (s.memory_usage_bytes - r.len) (x ++ drop s.count s.rows) n cells lanes) e
+      ∙ ap (λ (x : List Row). with_rows s (s.memory_usage_bytes - r.len) x n cells lanes) (closed-front s.rows k s.count at.low room)
+      ∙ ap (λ (x : ℕ). with_rows s (s.memory_usage_bytes - r.len) (closed s.rows k s.count) x cells lanes) m
+
 -- ---- the row that is found
 
-module _ (s : SendChannelReliable) (v : Valid s) (x : ℕ) where
-  pub bad-number : LIMIT ≤ x → Waits s x (Err BadNumber)
-  unfolding ack_row
-  bad-number h f = rw (le-leb _ _ h)
+pub bad-number : (s : SendChannelReliable) (x : ℕ) → LIMIT ≤ x → Waits s x (Err BadNumber)
+unfolding ack_row
+bad-number s x h f = rw (le-leb _ _ h)
 
+module _ (s : SendChannelReliable) (v : Valid s) (x : ℕ) where
   module _ (low : x < LIMIT) where
     here : (t : Bool) → ltb (row_of s x) s.count ≡ t → Waits s x (Ok (pick t (Some (row_of s x, get_or (live s) (row_of s x) no_row)) None))
     unfolding ack_row
@@ -93,7 +121,7 @@ module _ (s : SendChannelReliable) (v : Valid s) (k : ℕ) (r : Row) (at : RowAt
     unfolding with_ack
     piece-more m = rw (new, ne_eqb _ _ m)
 
-  with-ack-valid : i < pieces_of r.len → Valid (with_ack s k i r l a next)
+  pub with-ack-valid : i < pieces_of r.len → Valid (with_ack s k i r l a next)
   unfolding with_ack
   with-ack-valid m =
       pick-cases Valid (piece_at s l i).acked (λ _. v)

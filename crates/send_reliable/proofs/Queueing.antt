@@ -6,11 +6,12 @@ use mathlib.Core.List.{List, [], ◌∷◌}
 use native.Mathlib.Omega.{arith}
 use borrow.Author.Tests.{ltb-true, ltb-false, leb-true, leb-false, eqb-true, not-true, not-false, lt-ltb, le-ltb, le-leb, lt-leb}
 use lib.Dec.{ltb, leb, eqb}
-use lib.ListN.{length, get_or, drop, replicate, length-drop, length-replicate}
+use lib.ListN.{length, get_or, set, drop, replicate, length-drop, length-replicate}
 use lib.Seq.{length-take-le}
 use borrow.Rule.Slice.PartMut.{mid_of, put_mid}
-use Rattle.words.specs.Sizes.{SLICE_SIZE, LIMIT}
+use Rattle.words.specs.Sizes.{SLICE_SIZE, PIECES, LIMIT}
 use Rattle.words.specs.Choice.{pick}
+use Rattle.words.specs.Pieces.{pieces_of}
 use Rattle.words.specs.Lists.{splice, lowest_free_of, All}
 use Rattle.words.specs.Refusal.{number_of}
 use Rattle.words.specs.declared.Refusal.{Refusal}
@@ -23,11 +24,14 @@ use Rattle.channel.specs.declared.Settled.{Settled}
 use Rattle.channel.proofs.Good.{stores-room}
 use Rattle.std.specs.Prelude.{Ok, Err}
 use Rattle.words.proofs.Unique.{numbered-above}
+use Rattle.send_reliable.specs.declared.Kind.{Kind}
+use Rattle.send_reliable.specs.declared.Kind.TheVariants.{Small, Sliced}
+use Rattle.send_reliable.specs.declared.Row.{Row}
 use Rattle.send_reliable.specs.declared.Piece.{Piece}
 use Rattle.send_reliable.specs.declared.SendChannelReliable.{SendChannelReliable}
-use Rattle.send_reliable.specs.Sender.{no_piece, new_of, Valid, MadeGives}
-use Rattle.send_reliable.specs.Queue.{queue_refusal, cell, lane, refused, free_spot, spot_of, add_small, add_sliced, QueueGives}
-use Rattle.send_reliable.specs.QueueSteps.{RowFits}
+use Rattle.send_reliable.specs.Sender.{unsent, as_row, no_piece, new_of, Valid, MadeGives}
+use Rattle.send_reliable.specs.Queue.{queue_refusal, cell, lane, refused, free_spot, spot_of, add_row_of, add_small, add_sliced, QueueGives}
+use Rattle.send_reliable.specs.QueueSteps.{Narrow, RowFits}
 use Rattle.send_reliable.proofs.Valid.{new-valid, CellFree, LaneFree, add-small-valid, add-sliced-valid}
 
 -- ---- a new sender
@@ -192,6 +196,76 @@ module _ (s : SendChannelReliable) (v : Valid s) (msg small lanes : List ℕ) wh
           lane-store = rw h eb;
           valid = rw et (add-sliced-valid s v (length msg) l (spot-lane s v (length msg) (length small) (length lanes) l h).0);
         }
+
+-- ---- once a message's place is taken, and its row is not put yet
+
+-- t with a row more, of a message of n bytes
+abbrev pub with_row : SendChannelReliable → ℕ → Row → SendChannelReliable
+with_row t n row =
+    record {
+      channel_id = t.channel_id;
+      settings = t.settings;
+      resend_time = t.resend_time;
+      next_reliable_message_id = t.next_reliable_message_id + 1;
+      memory_usage_bytes = t.memory_usage_bytes + n;
+      latest = t.latest;
+      count = t.count + 1;
+      rows = set t.rows t.count row;
+      cells = t.cells;
+      lanes = t.lanes;
+      pieces = t.pieces;
+    }
+
+-- t is s with these cells, lanes and pieces
+abbrev pub with_places : SendChannelReliable → List Bool → List Bool → List Piece → SendChannelReliable
+with_places s cells lanes pieces =
+    record {
+      channel_id = s.channel_id;
+      settings = s.settings;
+      resend_time = s.resend_time;
+      next_reliable_message_id = s.next_reliable_message_id;
+      memory_usage_bytes = s.memory_usage_bytes;
+      latest = s.latest;
+      count = s.count;
+      rows = s.rows;
+      cells = cells;
+      lanes = lanes;
+      pieces = pieces;
+    }
+
+-- in t and in the stores everything but the row of the message is as queueing gives it
+pub record PutFor (s : SendChannelReliable) (msg small lanes : List ℕ) (t : SendChannelReliable) (kind : Kind) (small' lanes' : List ℕ) : Type 0 where
+  pub narrow : Narrow (length msg) kind
+  pub fits : RowFits t (length msg)
+  pub gives : (row : Row) → row ≡ as_row (record { 0 = s.next_reliable_message_id }) (length msg) kind
+      → QueueGives s msg small lanes small' lanes' (record { answer = Ok (record { 0 = s.next_reliable_message_id }); state = with_row t (length msg) row })
+
+module _ (s : SendChannelReliable) (v : Valid s) (msg small lanes store : List ℕ) where
+  pub put-cell : (i : ℕ) → spot_of s (length msg) (length small) (length lanes) ≡ cell i → store ≡ splice (i * SLICE_SIZE) msg small
+      → PutFor s msg small lanes (with_places s (set s.cells i true) s.lanes s.pieces) (Small i unsent) store lanes
+  unfolding add_small
+  put-cell i h eb =
+      let p = (spot-cell s v (length msg) (length small) (length lanes) i h).0 in
+      let f = cell-fits s v (length msg) i p in
+      record {
+        narrow = (p.short, omega (arith, p.low, v.settings.slots-most));
+        fits = record { low = f.low; ids = f.ids; memory = f.memory };
+        gives = λ row e. queue-small s v msg small lanes _ store i h eb (ap (with_row (with_places s (set s.cells i true) s.lanes s.pieces) (length msg)) e);
+      }
+
+  pub put-lane : (l : ℕ) → spot_of s (length msg) (length small) (length lanes) ≡ lane l → store ≡ splice (l * lane_len_of s.settings) msg lanes
+      → (pieces : List Piece) → pieces ≡ splice (l * PIECES) (replicate (pieces_of (length msg)) no_piece) s.pieces
+      → PutFor s msg small lanes (with_places s s.cells (set s.lanes l true) pieces) (Sliced l 0 0) small store
+  unfolding add_sliced
+  put-lane l h eb pieces ep =
+      let p = (spot-lane s v (length msg) (length small) (length lanes) l h).0 in
+      let f = lane-fits s v (length msg) l p in
+      record {
+        narrow = (omega (arith, p.limit, v.settings.pieces-most), omega (arith, p.low, v.settings.lanes-most), omega arith, omega arith);
+        fits = record { low = f.low; ids = f.ids; memory = f.memory };
+        gives = λ row e. queue-sliced s v msg small lanes _ store l h eb
+            (ap (with_row (with_places s s.cells (set s.lanes l true) pieces) (length msg)) e ∙ ap (λ (ps : List Piece). add_row_of s (length msg) (Sliced l 0 0) s.cells (set s.lanes l true) ps) ep);
+      }
 
 -- ---- clearing the pieces of a lane
 

@@ -40,7 +40,7 @@ use Rattle.send_reliable.specs.Select.{Visit, no_visit, visits_from, sent_at, Ch
 use Rattle.send_reliable.specs.RoundSteps.{goes, size_row, Within, Selects, Visitable, chosen_by, VisitGives}
 use Rattle.send_reliable.specs.Round.{Given, entry_refusal, packs, lent, refusal_of, state_after, RoundGives}
 use Rattle.send_reliable.proofs.Visits.{rows-room, visits-within}
-use Rattle.send_reliable.proofs.Select.{visit-small, visit-piece, enough, Kept, SmallHere, small-here, PieceHere, piece-here, up_to, up_to-kept, select-valid, select-goes}
+use Rattle.send_reliable.proofs.Select.{visit-small, visit-piece, enough, Kept, SmallHere, small-here, PieceHere, piece-here, begun, visit-keeps, up_to, up_to-kept, select-valid, select-goes}
 
 -- after v visits, the code has chosen what the definition reaches, an item for a visit at most, in a table of z items; nothing else of the state
 -- changed
@@ -56,14 +56,24 @@ none-chosen s now a items = record { few = zero-le; long = refl; chosen = refl; 
 
 -- ---- the loop
 
+-- the state once the clock moved on, before the first visit
+abbrev pub from_now : SendChannelReliable → ℕ → SendChannelReliable
+from_now s now = with_chosen s now (unvisited s 0)
+
 abbrev WithinRows : SendChannelReliable → Visit → Type 0
 WithinRows s = Within s.count (λ k. size_row (get_or s.rows k no_row))
 
 abbrev visiting : SendChannelReliable → ℕ → Chosen → Visit → Chosen
 visiting s now = visit s.settings s.resend_time now
 
-module _ (s : SendChannelReliable) (f : Valid s) (now a : ℕ) (h : s.latest ≤ now) (visits : List Visit) (vs : visits ≡ visits_from 0 (live s)) (z v : ℕ) (c : Selection) (t : SendChannelReliable)
-    (items : List code.Item) (w : ChosenTo s now a z v c t items) where
+module _ (s₀ : SendChannelReliable) (f₀ : Valid s₀) (now a : ℕ) (h : s₀.latest ≤ now) (visits : List Visit) (vs : visits ≡ visits_from 0 (live s₀)) (z v : ℕ) (c : Selection) (t : SendChannelReliable)
+    (items : List code.Item) (w : ChosenTo (from_now s₀ now) now a z v c t items) where
+  abbrev s : SendChannelReliable
+  s = from_now s₀ now
+
+  f : Valid s
+  f = begun s₀ now f₀ h 0
+
   abbrev now-chosen : Chosen
   now-chosen = chosen_by c items t
 
@@ -73,7 +83,7 @@ module _ (s : SendChannelReliable) (f : Valid s) (now a : ℕ) (h : s.latest ≤
   -- what is known at the v-th visit
   pub visitable : v < length visits → Visitable t now the-visit
   visitable low =
-      let k : Kept s now now-chosen = subst (Kept s now) (sym w.chosen) (up_to-kept s f now h a v) in
+      let k : Kept s now now-chosen = subst (Kept s now) (sym w.chosen) (up_to-kept s f now (omega arith) a v) in
       let q : WithinRows s the-visit = rw vs (all-at (WithinRows s) (visits_from 0 (live s)) v no_visit (rw vs at low) (visits-within s f)) in
       let e = ap (λ (u : SendChannelReliable). u.count) w.state in
       let n = k.sizes the-visit.row in
@@ -83,9 +93,10 @@ module _ (s : SendChannelReliable) (f : Valid s) (now a : ℕ) (h : s.latest ≤
       }
 
   -- and after it
-  pub one-more : v < length visits → (c' : Selection) (t' : SendChannelReliable) (items' : List code.Item) → VisitGives now the-visit t c items t' c' items'
-      → ChosenTo s now a z (v + 1) c' t' items'
-  one-more low c' t' items' g =
+  pub one-more : v < length visits → (c' : Selection) (t' : SendChannelReliable) (items' : List code.Item) → VisitGives t.latest the-visit t c items t' c' items'
+      → ChosenTo (from_now s₀ now) now a z (v + 1) c' t' items'
+  one-more low c' t' items' g₀ =
+      let g = subst (λ (n : ℕ). VisitGives n the-visit t c items t' c' items') (ap (λ (u : SendChannelReliable). u.latest) w.state) g₀ in
       let l : v < length (visits_from 0 (live s)) = rw vs at low in
       record {
         few = omega (arith, g.few, w.few);
@@ -100,16 +111,16 @@ module _ (s : SendChannelReliable) (f : Valid s) (now a : ℕ) (h : s.latest ≤
       }
 
   -- at the end
-  pub all-chosen : length visits ≤ v → v ≤ length visits → length visits ≤ z → Selects s now a (length visits) items c.items (with_chosen t now now-chosen)
+  pub all-chosen : length visits ≤ v → v ≤ length visits → length visits ≤ z → Selects s₀ now a (length visits) items c.items t
   unfolding select
   all-chosen past within fits =
       let l : length (visits_from 0 (live s)) ≤ v = rw vs at past in
-      let e : now-chosen ≡ select s now a = w.chosen ∙ ap (reached (visiting s now) (unvisited s a)) (take_all v (visits_from 0 (live s)) l) in
+      let e : now-chosen ≡ select s₀ now a = w.chosen ∙ ap (reached (visiting s now) (unvisited s a)) (take_all v (visits_from 0 (live s)) l) in
       record {
         items = ap (λ (d : Chosen). d.items) e;
         few = omega (arith, w.few);
         long = omega (arith, w.few, w.long);
-        state = ap (λ (u : SendChannelReliable). with_chosen u now now-chosen) w.state ∙ ap (with_chosen s now) e;
+        state = w.state ∙ ap (with_chosen s₀ now) e;
       }
 
 -- ---- a visit
@@ -187,6 +198,13 @@ module _ (s : SendChannelReliable) (now : ℕ) (v : Visit) (k : Visitable s now 
           (set items c.items (record { num = num; id = r.id; index = record { 0 = v.piece }; place = l * lane_len_of s.settings + v.piece * SLICE_SIZE; len = size }))
       piece-chosen g room row er num size en es =
           more room _ _ _ _ (visit-piece s.settings s.resend_time now before v l d next e ∙ rw (u, sym eb ∙ g, er, en, es))
+
+-- a visit at the latest time keeps what is always true
+pub visited-valid : (s : SendChannelReliable) (v : Visit) → Visitable s s.latest v → (c : Selection) (items : List code.Item) (s' : SendChannelReliable) (c' : Selection)
+    (items' : List code.Item) → VisitGives s.latest v s c items s' c' items' → Valid s'
+visited-valid s v k c items s' c' items' g =
+    let w : Kept s s.latest (chosen_by c' items' s') = subst (Kept s s.latest) (sym g.chosen) (visit-keeps s s.latest (chosen_by c items s) (kept s s.latest v k c items) v k.within) in
+    subst Valid (sym g.state) w.valid
 
 -- ---- a round
 

@@ -110,7 +110,7 @@ module _ (s : SendChannelReliable) (now : ℕ) where
   later-kind a n (Sliced l b k) h p = p
 
   -- before the first visit, the clock moved on
-  begun : Valid s → s.latest ≤ now → (a : ℕ) → Valid (with_chosen s now (unvisited s a))
+  pub begun : Valid s → s.latest ≤ now → (a : ℕ) → Valid (with_chosen s now (unvisited s a))
   unfolding Placed
   begun v h a =
       record {

@@ -5,18 +5,20 @@
 // A call takes a state and hands one back. What it does to the state it does in place, in a private
 // method on `&mut self`, so that a refusal is a `?` and no further copy of the state.
 ghost use Rattle.std.specs.Prelude.{◌≡◌, get_or, ◌≤◌, ◌<◌, ◌+◌, ◌-◌, length, ◌++◌, take};
-ghost use Rattle.send_reliable.specs.Sender.{ROWS, last_sent_of, kind_of, as_row, no_row, no_piece, new_of, Valid, MadeGives, live, SentBy};
-ghost use Rattle.send_reliable.specs.Queue.{add_row_of, spot_of, available_memory_of, can_send_of, QueueGives};
-ghost use Rattle.send_reliable.specs.Ack.{closed, without, ack_small, ack_piece, AckGives};
-ghost use Rattle.send_reliable.specs.QueueSteps.{place_of, Narrow, RowFits, found_in, Waits};
+ghost use Rattle.send_reliable.specs.Sender.{ROWS, last_sent_of, kind_of, as_row, no_row, no_piece, new_of, MadeGives, live, SentBy};
+ghost use Rattle.channel.specs.Settings.{Good};
+ghost use Rattle.send_reliable.specs.Queue.{spot_of, available_memory_of, can_send_of, QueueGives};
+ghost use Rattle.send_reliable.specs.Ack.{closed, ack_small, ack_piece, AckGives};
+ghost use Rattle.send_reliable.specs.QueueSteps.{place_of, Narrow, found_in, Waits};
 ghost use Rattle.pack.specs.Rows.{verdict_of};
 ghost use Rattle.pack.specs.Round.{ITEMS};
 ghost use Rattle.send_reliable.specs.Select.{no_visit, up_from, row_visits, visits_from, due};
 ghost use Rattle.send_reliable.specs.Round.{entry_number, RoundGives};
-ghost use Rattle.send_reliable.specs.RoundSteps.{Ranged, goes, Selects, Visitable, VisitGives};
+ghost use Rattle.send_reliable.specs.RoundSteps.{Ranged, goes, Selects, Within, size_row, VisitGives};
 
 use channel::Settings;
 use pack::{ITEMS, Item, Lent, Written};
+use std::marker::Model;
 use words::{
     After, LANES, LIMIT, MessageId, PIECES, Refusal, SLICE_SIZE, SLOTS, Sequence, SliceIndex,
 };
@@ -78,6 +80,22 @@ pub struct SendChannelReliable {
     cells: [bool; SLOTS],
     lanes: [bool; LANES],
     pieces: [Piece; ALL_PIECES],
+}
+
+// A contract sees its fields, of which `Valid` is always true.
+impl Model for SendChannelReliable {
+    ghost use Rattle.send_reliable.specs.State.{State};
+
+    ghost Value = { State };
+
+    ghost use Rattle.send_reliable.specs.Sender.{Valid};
+    ghost use Rattle.send_reliable.specs.Fields.{state_of, fields_of};
+
+    ghost view = { state_of };
+
+    ghost invariant = { λ a. Valid (state_of a) };
+
+    ghost inverse = { fields_of };
 }
 
 pub type Made = After<Result<(), Refusal>, SendChannelReliable>;
@@ -218,17 +236,18 @@ fn find(rows: &[Row], id: MessageId) -> Option<(usize, Row)>
     None
 }
 
-// Closes up the rows after k, which goes, and puts a blank one after them. (`rotate_left` would move
-// each row twice.)
-fn close(rows: &mut [Row], k: usize)
+// Closes up the rows after k, which goes, puts a blank one after them, and answers how many there are
+// then. (`rotate_left` would move each row twice.)
+fn close(rows: &mut [Row], k: usize) -> usize
     requires { k < length rows.old }
-    ensures { rows.new ≡ closed rows.old k (length rows.old) }
+    ensures { (rows.new ≡ closed rows.old k (length rows.old)) × (result ≡ length rows.old - 1) }
 {
     let last = rows.len() - 1;
     for i in k..last {
         rows[i] = rows[i + 1];
     }
     rows[last] = Row::blank();
+    last
 }
 
 impl SendChannelReliable {
@@ -251,7 +270,6 @@ impl SendChannelReliable {
 
     // Queues a message: its bytes go to the front of the lowest free cell, or lane if it is long.
     pub fn send_message(mut self, message: &[u8], small: &mut [u8], lanes: &mut [u8]) -> Queued
-        requires { Valid self }
         ensures { QueueGives self message.now small.old lanes.old small.new lanes.new result }
     {
         let answer = self.queue(message, small, lanes);
@@ -263,7 +281,6 @@ impl SendChannelReliable {
 
     // Takes the ack of a small message, which is then gone.
     pub fn process_message_ack(mut self, message_id: MessageId) -> Acked
-        requires { Valid self }
         ensures { AckGives (ack_small self message_id.0) result }
     {
         let answer = self.take_message_ack(message_id);
@@ -279,7 +296,6 @@ impl SendChannelReliable {
         message_id: MessageId,
         slice_index: SliceIndex,
     ) -> Acked
-        requires { Valid self }
         ensures { AckGives (ack_piece self message_id.0 slice_index.0) result }
     {
         let answer = self.take_slice_ack(message_id, slice_index);
@@ -291,7 +307,6 @@ impl SendChannelReliable {
 
     // How many bytes more may wait.
     pub fn available_memory(self) -> usize
-        requires { Valid self }
         ensures { result ≡ available_memory_of self }
     {
         self.settings.max_memory_usage_bytes - self.memory_usage_bytes
@@ -299,7 +314,6 @@ impl SendChannelReliable {
 
     // Whether a message of this size fits in the memory.
     pub fn can_send_message(self, size: usize) -> bool
-        requires { Valid self }
         ensures { result ≡ can_send_of self size }
     {
         // not a sum, which a large size could make overflow
@@ -308,7 +322,6 @@ impl SendChannelReliable {
 
     // How many bytes wait.
     pub fn memory_usage_bytes(self) -> usize
-        requires { Valid self }
         ensures { result ≡ self.memory_usage_bytes }
     {
         self.memory_usage_bytes
@@ -316,6 +329,7 @@ impl SendChannelReliable {
 
     // A sender that nothing waits in.
     fn empty(channel_id: u8, settings: Settings, resend_time: u64) -> SendChannelReliable
+        requires { Good settings }
         ensures { result ≡ new_of channel_id settings resend_time }
     {
         SendChannelReliable {
@@ -335,7 +349,6 @@ impl SendChannelReliable {
 
     // Where a message of n bytes goes, with stores of these lengths: the lowest free cell or lane.
     fn find_place(&self, n: usize, small: usize, lanes: usize) -> Result<Place, Refusal>
-        requires { Valid self.now }
         ensures { place_of result ≡ spot_of self.now n small lanes }
     {
         let settings = self.settings;
@@ -372,17 +385,16 @@ impl SendChannelReliable {
         small: &mut [u8],
         lanes: &mut [u8],
     ) -> Result<MessageId, Refusal>
-        requires { Valid self.old }
         ensures { QueueGives self.old message.now small.old lanes.old small.new lanes.new (record { answer = result; state = self.new }) }
     {
         let n = message.len();
         let id = MessageId(self.next_reliable_message_id);
         let place = self.find_place(n, small.len(), lanes.len())?;
-        match place {
+        let kind = match place {
             Place::Cell(i) => {
                 words::write_bytes(small, i * SLICE_SIZE, message);
                 self.cells[i] = true;
-                self.add_row(n, Kind::Small(i, Sending { sent: 0, time: 0 }));
+                Kind::Small(i, Sending { sent: 0, time: 0 })
             }
             Place::Lane(l) => {
                 let size = self.settings.pieces * SLICE_SIZE;
@@ -390,28 +402,18 @@ impl SendChannelReliable {
                 self.lanes[l] = true;
                 let first = l * PIECES;
                 self.pieces[first..first + pack::num_slices(n)].fill(Piece::blank());
-                self.add_row(n, Kind::Sliced(l, 0, 0));
+                Kind::Sliced(l, 0, 0)
             }
-        }
-        Ok(id)
-    }
-
-    // A message of n bytes more, in the next row and under the next id.
-    fn add_row(&mut self, n: usize, kind: Kind)
-        requires fits { RowFits self.old n }
-        requires narrow { Narrow n kind }
-        requires long { length self.old.rows ≡ ROWS }
-        ensures { self.new ≡ add_row_of self.old n kind self.old.cells self.old.lanes self.old.pieces }
-    {
-        self.rows[self.count] = Row::new(MessageId(self.next_reliable_message_id), n, kind);
+        };
+        self.rows[self.count] = Row::new(id, n, kind);
         self.count += 1;
         self.memory_usage_bytes += n;
         self.next_reliable_message_id += 1;
+        Ok(id)
     }
 
     // The row that an ack names, and its place; none where no message waits under the id.
     fn waiting(&self, id: MessageId) -> Result<Option<(usize, Row)>, Refusal>
-        requires { Valid self.now }
         ensures { Waits self.now id.0 result }
     {
         if LIMIT <= id.0 {
@@ -422,7 +424,6 @@ impl SendChannelReliable {
 
     // `process_message_ack`, in place.
     fn take_message_ack(&mut self, id: MessageId) -> Result<Ack, Refusal>
-        requires { Valid self.old }
         ensures { AckGives (ack_small self.old id.0) (record { answer = result; state = self.new }) }
     {
         let found = self.waiting(id)?;
@@ -434,13 +435,13 @@ impl SendChannelReliable {
             return Err(Refusal::WrongKind);
         };
         self.cells[cell] = false;
-        self.remove(k);
+        self.memory_usage_bytes -= row.len as usize;
+        self.count = close(&mut self.rows[..self.count], k);
         Ok(Ack::Done)
     }
 
     // `process_slice_message_ack`, in place.
     fn take_slice_ack(&mut self, id: MessageId, index: SliceIndex) -> Result<Ack, Refusal>
-        requires { Valid self.old }
         ensures { AckGives (ack_piece self.old id.0 index.0) (record { answer = result; state = self.new }) }
     {
         let found = self.waiting(id)?;
@@ -462,25 +463,13 @@ impl SendChannelReliable {
         }
         if acked + 1 == num {
             self.lanes[lane] = false;
-            self.remove(k);
+            self.memory_usage_bytes -= len;
+            self.count = close(&mut self.rows[..self.count], k);
             return Ok(Ack::Done);
         }
         self.pieces[at].acked = true;
         self.rows[k] = Row::new(row.id, len, Kind::Sliced(lane, acked + 1, next));
         Ok(Ack::Done)
-    }
-
-    // Takes away the k-th waiting message: its row closes up, and its length is given back.
-    fn remove(&mut self, k: usize)
-        requires low { k < self.old.count }
-        requires count { self.old.count ≤ ROWS }
-        requires long { length self.old.rows ≡ ROWS }
-        requires used { (get_or self.old.rows k no_row).len ≤ self.old.memory_usage_bytes }
-        ensures { self.new ≡ without self.old k (get_or self.old.rows k no_row).len self.old.cells self.old.lanes }
-    {
-        self.memory_usage_bytes -= self.rows[k].len as usize;
-        close(&mut self.rows[..self.count], k);
-        self.count -= 1;
     }
 }
 
@@ -536,7 +525,6 @@ impl SendChannelReliable {
         small: usize,
         lanes: usize,
     ) -> Result<(), Refusal>
-        requires { Valid self.now }
         ensures { verdict_of result ≡ entry_number self.now.settings self.now.latest sequence.0 current_time small lanes }
     {
         if !self.settings.stores_hold(small, lanes) {
@@ -553,7 +541,6 @@ impl SendChannelReliable {
 
     // Writes what a round looks at, in its order, and answers how many visits there are.
     fn write_visits(&self, visits: &mut [Visit]) -> usize
-        requires valid { Valid self.now }
         requires in_bounds { ITEMS ≤ length visits.old }
         ensures { (result ≤ ITEMS) × (take result visits.new ≡ visits_from 0 (live self.now)) }
     {
@@ -572,7 +559,6 @@ impl SendChannelReliable {
         allowance: u64,
         items: &mut [Item],
     ) -> usize
-        requires valid { Valid self.old }
         requires latest_le_current_time { self.old.latest ≤ current_time }
         requires visits_value { visits.now ≡ visits_from 0 (live self.old) }
         requires in_bounds { length visits.now ≤ length items.old }
@@ -582,32 +568,28 @@ impl SendChannelReliable {
             left: allowance,
             items: 0,
         };
-        for v in 0..visits.len() {
-            chosen = self.visit(visits[v], current_time, chosen, items);
-        }
+        // now, so that what goes was never sent after the latest time
         self.latest = current_time;
+        for v in 0..visits.len() {
+            chosen = self.visit(visits[v], chosen, items);
+        }
         chosen.items
     }
 
-    // Chooses what a visit is to, if it goes: a small message if the allowance covers it, a piece only
-    // if the allowance is at least SLICE_SIZE, whatever its own length.
-    fn visit(
-        &mut self,
-        visit: Visit,
-        current_time: u64,
-        mut chosen: Selection,
-        items: &mut [Item],
-    ) -> Selection
-        requires here { Visitable self.old current_time visit }
+    // Chooses what a visit at the latest time is to, if it goes: a small message if the allowance
+    // covers it, a piece only if the allowance is at least SLICE_SIZE, whatever its own length.
+    fn visit(&mut self, visit: Visit, mut chosen: Selection, items: &mut [Item]) -> Selection
+        requires here { Within self.old.count (λ k. size_row (get_or self.old.rows k no_row)) visit }
         requires in_bounds { chosen.items < length items.old }
-        ensures { VisitGives current_time visit self.old chosen items.old self.new result items.new }
+        ensures { VisitGives self.old.latest visit self.old chosen items.old self.new result items.new }
     {
+        let current_time = self.latest;
+        let resend_time = self.resend_time;
         let k = visit.row;
         let row = self.rows[k];
         let id = row.id;
         let len = row.len as usize;
         let left = chosen.left;
-        let resend_time = self.resend_time;
         let sending = Sending {
             sent: 1,
             time: current_time,
@@ -664,10 +646,15 @@ impl SendChannelReliable {
         out: &mut [u8],
         table: &mut [u64],
     ) -> Round
-        requires { Valid self }
         ensures { RoundGives self (record { seq = sequence.0; now = current_time; allowance = allowance; small = small.now; lanes = lanes.now })
             out.old table.old out.new table.new result }
     {
+        let lent = Lent {
+            ids: true,
+            channel_id: self.channel_id,
+            small,
+            lanes,
+        };
         let verdict = self.judge_round(sequence, current_time, small.len(), lanes.len());
         if let Err(e) = verdict {
             return After {
@@ -680,12 +667,6 @@ impl SendChannelReliable {
         let mut items = [Item::blank(); ITEMS];
         let mut chosen = self;
         let m = chosen.select(&visits[..n], current_time, allowance, &mut items);
-        let lent = Lent {
-            ids: true,
-            channel_id: self.channel_id,
-            small,
-            lanes,
-        };
         let answer = pack::send(&lent, &items[..m], sequence, allowance, out, table);
         match answer {
             Err(_) => After {

@@ -20,4 +20,4 @@ pub returns : goal.returns
 returns c =
     let l = c.loop-i in
     let e : l.i ≡ length c.args.rows.now - 1 = omega arith in
-    rw (l.invariant, c.blank.ensures, e)
+    (rw (l.invariant, c.blank.ensures, e), omega arith)
