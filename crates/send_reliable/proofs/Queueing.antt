@@ -29,7 +29,7 @@ use Rattle.send_reliable.specs.declared.Kind.TheVariants.{Small, Sliced}
 use Rattle.send_reliable.specs.declared.Row.{Row}
 use Rattle.send_reliable.specs.declared.Piece.{Piece}
 use Rattle.send_reliable.specs.declared.SendChannelReliable.{SendChannelReliable}
-use Rattle.send_reliable.specs.Sender.{unsent, as_row, no_piece, new_of, Valid, MadeGives}
+use Rattle.send_reliable.specs.Sender.{ROWS, unsent, as_row, no_piece, new_of, Valid, MadeGives}
 use Rattle.send_reliable.specs.Queue.{queue_refusal, cell, lane, refused, free_spot, spot_of, add_row_of, add_small, add_sliced, QueueGives}
 use Rattle.send_reliable.specs.QueueSteps.{Narrow, RowFits}
 use Rattle.send_reliable.proofs.Valid.{new-valid, CellFree, LaneFree, add-small-valid, add-sliced-valid}
@@ -236,7 +236,7 @@ with_places s cells lanes pieces =
 -- in t and in the stores everything but the row of the message is as queueing gives it
 pub record PutFor (s : SendChannelReliable) (msg small lanes : List ℕ) (t : SendChannelReliable) (kind : Kind) (small' lanes' : List ℕ) : Type 0 where
   pub narrow : Narrow (length msg) kind
-  pub fits : RowFits t (length msg)
+  pub low : t.count < ROWS
   pub gives : (row : Row) → row ≡ as_row (record { 0 = s.next_reliable_message_id }) (length msg) kind
       → QueueGives s msg small lanes small' lanes' (record { answer = Ok (record { 0 = s.next_reliable_message_id }); state = with_row t (length msg) row })
 
@@ -246,10 +246,9 @@ module _ (s : SendChannelReliable) (v : Valid s) (msg small lanes store : List �
   unfolding add_small
   put-cell i h eb =
       let p = (spot-cell s v (length msg) (length small) (length lanes) i h).0 in
-      let f = cell-fits s v (length msg) i p in
       record {
         narrow = (p.short, omega (arith, p.low, v.settings.slots-most));
-        fits = record { low = f.low; ids = f.ids; memory = f.memory };
+        low = (cell-fits s v (length msg) i p).low;
         gives = λ row e. queue-small s v msg small lanes _ store i h eb (ap (with_row (with_places s (set s.cells i true) s.lanes s.pieces) (length msg)) e);
       }
 
@@ -259,10 +258,9 @@ module _ (s : SendChannelReliable) (v : Valid s) (msg small lanes store : List �
   unfolding add_sliced
   put-lane l h eb pieces ep =
       let p = (spot-lane s v (length msg) (length small) (length lanes) l h).0 in
-      let f = lane-fits s v (length msg) l p in
       record {
         narrow = (omega (arith, p.limit, v.settings.pieces-most), omega (arith, p.low, v.settings.lanes-most), omega arith, omega arith);
-        fits = record { low = f.low; ids = f.ids; memory = f.memory };
+        low = (lane-fits s v (length msg) l p).low;
         gives = λ row e. queue-sliced s v msg small lanes _ store l h eb
             (ap (with_row (with_places s s.cells (set s.lanes l true) pieces) (length msg)) e ∙ ap (λ (ps : List Piece). add_row_of s (length msg) (Sliced l 0 0) s.cells (set s.lanes l true) ps) ep);
       }

@@ -24,7 +24,7 @@ use Rattle.pack.specs.Encode.{round_refusal}
 use Rattle.pack.specs.Round.{Sums, sent, went_of, Gives}
 use Rattle.pack.specs.Round as rounds
 use Rattle.pack.specs.declared.Written.{Written}
-use Rattle.send_unreliable.specs.Sender.{empty_of, Valid, MadeGives, cell, lane, dropped, refused, spot_of, queued, QueueGives}
+use Rattle.send_unreliable.specs.Sender.{ROWS, empty_of, Valid, MadeGives, cell, lane, dropped, refused, spot_of, queued, QueueGives}
 use Rattle.send_unreliable.specs.Round.{Given, Chosen, select, packs, lent, refusal_of, RoundGives}
 use Rattle.send_unreliable.specs.declared.SendChannelUnreliable.{SendChannelUnreliable}
 use Rattle.send_unreliable.specs.declared.Queue.TheVariants as queue
@@ -87,6 +87,46 @@ module _ (s : SendChannelUnreliable) (v : Valid s) (msg small lanes : List ℕ) 
   pub queue-refused : (x : Refusal) → spot_of s (length msg) (length small) (length lanes) ≡ refused (number_of x)
       → QueueGives s msg small lanes small lanes (record { answer = Err x; state = s })
   queue-refused x e = record { answer = rw e; state = rw e; small-store = rw e; lane-store = rw e; valid = v }
+
+-- ---- once a message is in the stores and counted, and not in the queue yet
+
+-- s with so many small and sliced messages
+abbrev pub with_counts : SendChannelUnreliable → ℕ → ℕ → SendChannelUnreliable
+with_counts s small sliced =
+    record {
+      channel_id = s.channel_id;
+      settings = s.settings;
+      sliced_message_id = s.sliced_message_id;
+      memory_usage_bytes = s.memory_usage_bytes;
+      count = s.count;
+      small = small;
+      sliced = sliced;
+      lens = s.lens;
+    }
+
+-- in t and in the stores everything but the queue is as queueing gives it
+pub record PutFor (s : SendChannelUnreliable) (msg small lanes : List ℕ) (t : SendChannelUnreliable) (small' lanes' : List ℕ) : Type 0 where
+  pub low : t.count < ROWS
+  pub gives : QueueGives s msg small lanes small' lanes' (record { answer = Ok queue.Taken; state = queued t (length msg) t.small t.sliced })
+
+module _ (s : SendChannelUnreliable) (v : Valid s) (msg small lanes store : List ℕ) where
+  pub put-cell : spot_of s (length msg) (length small) (length lanes) ≡ cell → store ≡ splice (s.small * SLICE_SIZE) msg small
+      → PutFor s msg small lanes (with_counts s (s.small + 1) s.sliced) store lanes
+  put-cell e es =
+      let p = spot-cell s (length msg) (length small) (length lanes) e in
+      record {
+        low = rows-free s v (omega (arith, p.free, v.sliced-most));
+        gives = queue-cell s v msg small lanes e store _ es refl;
+      }
+
+  pub put-lane : spot_of s (length msg) (length small) (length lanes) ≡ lane → store ≡ splice (s.sliced * lane_len_of s.settings) msg lanes
+      → PutFor s msg small lanes (with_counts s s.small (s.sliced + 1)) small store
+  put-lane e es =
+      let p = spot-lane s (length msg) (length small) (length lanes) e in
+      record {
+        low = rows-free s v (omega (arith, p.free, v.small-most));
+        gives = queue-lane s v msg small lanes e store _ es refl;
+      }
 
 -- ---- a round
 

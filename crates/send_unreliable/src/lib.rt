@@ -11,12 +11,13 @@ ghost use Rattle.words.specs.Lists.{reached};
 ghost use Rattle.channel.specs.Settings.{Good};
 ghost use Rattle.pack.specs.Pack.{items_in};
 ghost use Rattle.pack.specs.Round.{ITEMS};
-ghost use Rattle.send_unreliable.specs.Sender.{ROWS, empty_of, Valid, available, can_send_of, MadeGives, spot_of, queued, QueueGives};
+ghost use Rattle.send_unreliable.specs.Sender.{ROWS, empty_of, available, can_send_of, MadeGives, spot_of, QueueGives};
 ghost use Rattle.send_unreliable.specs.Round.{pieces_from, go, starting, RoundGives};
 ghost use Rattle.send_unreliable.specs.Steps.{place_of, chosen_at, Room};
 
 use channel::Settings;
 use pack::{ITEMS, Item, Lent, Written};
+use std::marker::Model;
 use words::{After, LANES, LIMIT, MessageId, Refusal, SLICE_SIZE, SLOTS, Sequence, SliceIndex};
 
 // Most messages that wait.
@@ -34,6 +35,22 @@ pub struct SendChannelUnreliable {
     small: usize,
     sliced: usize,
     lens: [usize; ROWS],
+}
+
+// A contract sees its fields, of which `Valid` is always true.
+impl Model for SendChannelUnreliable {
+    ghost use Rattle.send_unreliable.specs.State.{State};
+
+    ghost Value = { State };
+
+    ghost use Rattle.send_unreliable.specs.Sender.{Valid};
+    ghost use Rattle.send_unreliable.specs.Fields.{state_of, fields_of};
+
+    ghost view = { state_of };
+
+    ghost invariant = { λ a. Valid (state_of a) };
+
+    ghost inverse = { fields_of };
 }
 
 pub type Made = After<Result<(), Refusal>, SendChannelUnreliable>;
@@ -89,7 +106,6 @@ impl SendChannelUnreliable {
 
     // Whether a message of this size would not be dropped for want of memory.
     pub fn can_send_message(self, size_bytes: usize) -> bool
-        requires { Valid self }
         ensures { result ≡ can_send_of self size_bytes }
     {
         size_bytes <= self.settings.max_memory_usage_bytes - self.memory_usage_bytes
@@ -97,7 +113,6 @@ impl SendChannelUnreliable {
 
     // How many bytes more may wait.
     pub fn available_memory(self) -> usize
-        requires { Valid self }
         ensures { result ≡ available self }
     {
         self.settings.max_memory_usage_bytes - self.memory_usage_bytes
@@ -105,7 +120,6 @@ impl SendChannelUnreliable {
 
     // How many bytes the waiting messages have.
     pub fn memory_usage_bytes(self) -> usize
-        requires { Valid self }
         ensures { result ≡ self.memory_usage_bytes }
     {
         self.memory_usage_bytes
@@ -113,7 +127,6 @@ impl SendChannelUnreliable {
 
     // Queues a message: its bytes go to the front of the lowest free cell, or lane if it has pieces.
     pub fn send_message(mut self, message: &[u8], small: &mut [u8], lanes: &mut [u8]) -> Queued
-        requires { Valid self }
         ensures { QueueGives self message.now small.old lanes.old small.new lanes.new result }
     {
         let answer = self.queue(message, small, lanes);
@@ -133,7 +146,6 @@ impl SendChannelUnreliable {
         out: &mut [u8],
         table: &mut [u64],
     ) -> Round
-        requires { Valid self }
         ensures { RoundGives self (record { seq = sequence.0; allowance = allowance; small = small.now; lanes = lanes.now })
             out.old table.old out.new table.new result }
     {
@@ -146,6 +158,7 @@ impl SendChannelUnreliable {
 
     // A sender with an empty queue.
     fn empty(channel_id: u8, settings: Settings) -> SendChannelUnreliable
+        requires { Good settings }
         ensures { result ≡ empty_of channel_id settings 0 }
     {
         SendChannelUnreliable {
@@ -162,7 +175,6 @@ impl SendChannelUnreliable {
 
     // Where a message of n bytes goes, with stores of these lengths.
     fn find_place(&self, n: usize, small: usize, lanes: usize) -> Result<Place, Refusal>
-        requires { Valid self.now }
         ensures { place_of result ≡ spot_of self.now n small lanes }
     {
         let settings = self.settings;
@@ -194,7 +206,6 @@ impl SendChannelUnreliable {
         small: &mut [u8],
         lanes: &mut [u8],
     ) -> Result<Queue, Refusal>
-        requires { Valid self.old }
         ensures { QueueGives self.old message.now small.old lanes.old small.new lanes.new (record { answer = result; state = self.new }) }
     {
         let n = message.len();
@@ -204,29 +215,19 @@ impl SendChannelUnreliable {
         match place {
             Place::Cell => {
                 words::write_bytes(small, k * SLICE_SIZE, message);
-                self.add_message(n, k + 1, l);
-                Ok(Queue::Taken)
+                self.small = k + 1;
             }
             Place::Lane => {
                 let size = self.settings.pieces * SLICE_SIZE;
                 words::write_bytes(lanes, l * size, message);
-                self.add_message(n, k, l + 1);
-                Ok(Queue::Taken)
+                self.sliced = l + 1;
             }
-            Place::Dropped => Ok(Queue::Dropped),
+            Place::Dropped => return Ok(Queue::Dropped),
         }
-    }
-
-    // A message of n bytes more at the end of the queue, and so many small and sliced ones.
-    fn add_message(&mut self, n: usize, small: usize, sliced: usize)
-        requires { Valid self.old × (self.old.count < ROWS) × (self.old.memory_usage_bytes + n ≤ self.old.settings.max_memory_usage_bytes) }
-        ensures { self.new ≡ queued self.old n small sliced }
-    {
         self.lens[self.count] = n;
         self.count += 1;
         self.memory_usage_bytes += n;
-        self.small = small;
-        self.sliced = sliced;
+        Ok(Queue::Taken)
     }
 
     // `get_packets_to_send`, in place.
@@ -239,7 +240,6 @@ impl SendChannelUnreliable {
         out: &mut [u8],
         table: &mut [u64],
     ) -> Result<Written, Refusal>
-        requires { Valid self.old }
         ensures { RoundGives self.old (record { seq = sequence.0; allowance = allowance; small = small.now; lanes = lanes.now })
             out.old table.old out.new table.new (record { answer = result; state = self.new }) }
     {

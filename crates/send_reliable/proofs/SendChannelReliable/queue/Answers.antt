@@ -91,13 +91,13 @@ pub new-requires : goal.new-requires
 new-requires c = (put c).narrow
 
 pub offset_bounds-self-inside-self-inside : goal.offset_bounds-self-inside-self-inside
-offset_bounds-self-inside-self-inside c = omega (arith, (put (goal.at.offset_bounds-self-inside-self-inside c).Joined-place).fits.low)
+offset_bounds-self-inside-self-inside c = omega (arith, (put (goal.at.offset_bounds-self-inside-self-inside c).Joined-place).low)
 
 pub bounds-self-inside-self-inside : goal.bounds-self-inside-self-inside
-bounds-self-inside-self-inside c = (put (goal.at.bounds-self-inside-self-inside c).Joined-place).fits.low
+bounds-self-inside-self-inside c = (put (goal.at.bounds-self-inside-self-inside c).Joined-place).low
 
 pub overflow_add-self : goal.overflow_add-self
-overflow_add-self c = omega (arith, (put (goal.at.overflow_add-self c).Joined-place).fits.low)
+overflow_add-self c = omega (arith, (put (goal.at.overflow_add-self c).Joined-place).low)
 
 pub invariant_of-self : goal.invariant_of-self
 invariant_of-self c = ((put (goal.at.invariant_of-self c).Joined-place).gives _ c.new.ensures).valid
