@@ -159,7 +159,7 @@ pub fn call(
         small.old small.new lanes.old lanes.new
         out.old out.new table.old table.new result.senders }
 {
-    let p = parts_of(s, reliable, c.k, small, lanes, out, table);
+    let p = parts_of(&s, reliable, c.k, small, lanes, out, table);
     answer(
         s,
         reliable,
@@ -177,8 +177,8 @@ pub fn call(
 }
 
 // How much a call sees: what is lent, but a digest is of all.
-fn seen(s: Senders, reliable: bool, k: usize) -> Lent
-    ensures { result ≡ seen_by s reliable k }
+fn seen(s: &Senders, reliable: bool, k: usize) -> Lent
+    ensures { result ≡ seen_by s.now reliable k }
 {
     if k == DIGEST {
         return all();
@@ -210,7 +210,7 @@ fn begins(reliable: bool, n: usize) -> usize
 
 // What a call sees of the memory of all ends.
 fn parts_of(
-    s: Senders,
+    s: &Senders,
     reliable: bool,
     k: usize,
     small: &[u8],
@@ -218,7 +218,7 @@ fn parts_of(
     out: &[u8],
     table: &[u64],
 ) -> Parts
-    ensures { PartsGive reliable (seen_by s reliable k)
+    ensures { PartsGive reliable (seen_by s.now reliable k)
         (length small.now) (length lanes.now) (length out.now) (length table.now) result }
 {
     let l = seen(s, reliable, k);
@@ -286,9 +286,7 @@ impl Senders {
     }
 
     // What a call that changes no sender answers.
-    fn told(&self, reliable: bool, k: usize, numbers: &[u64]) -> Said
-        requires { Sound self.now }
-    {
+    fn told(&self, reliable: bool, k: usize, numbers: &[u64]) -> Said {
         match k {
             3 => Said::Available(self.available(reliable)),
             4 => Said::Can(self.can_send(reliable, page::size(numbers, 0))),
@@ -302,21 +300,7 @@ impl Senders {
         }
     }
 
-    // The parts of sound senders, and another part for them.
-    fn sr(&self) -> SendChannelReliable
-        requires { Sound self.now }
-        ensures { srv.Valid result }
-    {
-        self.sr
-    }
-
-    fn su(&self) -> SendChannelUnreliable
-        requires { Sound self.now }
-        ensures { suv.Valid result }
-    {
-        self.su
-    }
-
+    // Another part for sound senders.
     fn set_sr(&mut self, state: SendChannelReliable)
         requires sound { Sound self.old }
         requires valid { srv.Valid state }
@@ -369,11 +353,11 @@ impl Senders {
         ensures { Sound self.new }
     {
         if reliable {
-            let r = self.sr().send_message(message, stores.small, stores.lanes);
+            let r = self.sr.send_message(message, stores.small, stores.lanes);
             self.set_sr(r.state);
             return r.answer.map(|id| Said::Id(id.0));
         }
-        let r = self.su().send_message(message, stores.small, stores.lanes);
+        let r = self.su.send_message(message, stores.small, stores.lanes);
         self.set_su(r.state);
         r.answer.map(|queue| match queue {
             Queue::Taken => Said::Taken,
@@ -388,7 +372,7 @@ impl Senders {
         let sequence = Sequence(page::word(numbers, 0));
         let second = page::word(numbers, 1);
         if reliable {
-            let r = self.sr().get_packets_to_send(
+            let r = self.sr.get_packets_to_send(
                 sequence,
                 second,
                 page::word(numbers, 2),
@@ -400,7 +384,7 @@ impl Senders {
             self.set_sr(r.state);
             return r.answer.map(|written| Said::Sent(written));
         }
-        let r = self.su().get_packets_to_send(
+        let r = self.su.get_packets_to_send(
             sequence,
             second,
             stores.small,
@@ -416,7 +400,7 @@ impl Senders {
         requires { Sound self.old }
         ensures { Sound self.new }
     {
-        let r = self.sr().process_message_ack(id);
+        let r = self.sr.process_message_ack(id);
         self.set_sr(r.state);
         r.answer.map(acked)
     }
@@ -425,36 +409,30 @@ impl Senders {
         requires { Sound self.old }
         ensures { Sound self.new }
     {
-        let r = self.sr().process_slice_message_ack(id, index);
+        let r = self.sr.process_slice_message_ack(id, index);
         self.set_sr(r.state);
         r.answer.map(acked)
     }
 
-    fn available(&self, reliable: bool) -> u64
-        requires { Sound self.now }
-    {
+    fn available(&self, reliable: bool) -> u64 {
         if reliable {
-            return self.sr().available_memory() as u64;
+            return self.sr.available_memory() as u64;
         }
-        self.su().available_memory() as u64
+        self.su.available_memory() as u64
     }
 
-    fn can_send(&self, reliable: bool, size: usize) -> bool
-        requires { Sound self.now }
-    {
+    fn can_send(&self, reliable: bool, size: usize) -> bool {
         if reliable {
-            return self.sr().can_send_message(size);
+            return self.sr.can_send_message(size);
         }
-        self.su().can_send_message(size)
+        self.su.can_send_message(size)
     }
 
-    fn usage(&self, reliable: bool) -> u64
-        requires { Sound self.now }
-    {
+    fn usage(&self, reliable: bool) -> u64 {
         if reliable {
-            return self.sr().memory_usage_bytes() as u64;
+            return self.sr.memory_usage_bytes() as u64;
         }
-        self.su().memory_usage_bytes() as u64
+        self.su.memory_usage_bytes() as u64
     }
 }
 
