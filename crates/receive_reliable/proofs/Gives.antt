@@ -8,7 +8,7 @@ use native.Mathlib.Omega.{arith}
 use borrow.Author.Tests.{eqb-true}
 use lib.Dec.{eqb}
 use lib.ListN.{length, get_or, take, drop}
-use Rattle.words.specs.Sizes.{SLICE_SIZE, LANES, PIECES}
+use Rattle.words.specs.Sizes.{SLICE_SIZE, LANES, PIECES, LIMIT}
 use Rattle.words.specs.Choice.{pick}
 use Rattle.words.specs.Lists.{splice}
 use Rattle.words.specs.Refusal.{number_of}
@@ -186,13 +186,18 @@ module _ {s : ReceiveChannelReliable} {id num i : ℕ} {bs small lane : List ℕ
   pub within : l * lane_len_of s.settings + lane_len_of s.settings ≤ length lane
   within = let f = fits in omega (arith, lane-within s.settings l f.1.low, f.0.lane_room)
 
+  -- a constructor of its own may be made
+  pub starts : b ≡ true → (id < LIMIT) × (num ≤ PIECES)
+  unfolding c.blank_of
+  starts e = let f : Fits s l id (c.start_of (constructor_at s l) true id num) = rw e at fits.1 in (f.below, omega (arith, f.most, x.valid.settings.pieces-most))
+
   -- the constructor that the code has, from what is stored there
   module _ (d k : SliceConstructor) (ek : k ≡ c.start_of (get_or s.constructors l d) b id num) where
     started : k ≡ c.start_of (constructor_at s l) b id num
     started =
         ek ∙ ap (λ (x : SliceConstructor). c.start_of x b id num) (get_d_any s.constructors l d (c.blank_of 0 0) (let low = lane_low in omega (arith, x.valid.constructors-long)))
 
-    pub start_fits : Fits s l id k
+    start_fits : Fits s l id k
     start_fits = rw started fits.1
 
     -- m bytes are lent, and come back

@@ -3,11 +3,13 @@
 // lent store, sliced ones are put together in lanes of the other; messages come out by rising id.
 ghost use Rattle.std.specs.Prelude.{◌≡◌, ◌≤◌, length, Ok, Some};
 ghost use Rattle.words.specs.Lists.{lowest_free_of};
-ghost use Rattle.receive_reliable.specs.Receive.{Valid, new_of, MadeGives, arrival_of, MessageGives, message_spot, fresh, SliceGives, with_lane_of, look_at, look_of, part_at, TakeGives};
+ghost use Rattle.channel.specs.Settings.{Good};
+ghost use Rattle.receive_reliable.specs.Receive.{new_of, MadeGives, arrival_of, MessageGives, message_spot, fresh, SliceGives, with_lane_of, look_at, look_of, part_at, TakeGives};
 ghost use Rattle.receive_reliable.specs.Steps.{shown_at, Fits, held_in, entry_of, message_to, lane_for_of, whole_of, open_of, slice_to, fresh_lane, lane_spot};
 
 use channel::{Opened, Settings, Store};
 use slice_constructor::SliceConstructor;
+use std::marker::Model;
 use words::{After, LANES, LIMIT, MessageId, Refusal, SLICE_SIZE, SLOTS, SliceIndex};
 
 // Entries of free cells and lanes are blank. Columns, and no array of rows: a search reads the ids
@@ -27,6 +29,22 @@ pub struct ReceiveChannelReliable {
     lane_ids: [u64; LANES],
     lane_lens: [usize; LANES],
     constructors: [SliceConstructor; LANES],
+}
+
+// A contract sees its fields, of which `Valid` is always true.
+impl Model for ReceiveChannelReliable {
+    ghost use Rattle.receive_reliable.specs.State.{State};
+
+    ghost Value = { State };
+
+    ghost use Rattle.receive_reliable.specs.Receive.{Valid};
+    ghost use Rattle.receive_reliable.specs.Fields.{state_of, fields_of};
+
+    ghost view = { state_of };
+
+    ghost invariant = { λ a. Valid (state_of a) };
+
+    ghost inverse = { fields_of };
 }
 
 // Whether it was set up, and the receiver.
@@ -81,7 +99,6 @@ impl ReceiveChannelReliable {
         small: &mut [u8],
         lanes: &[u8],
     ) -> Arrived
-        requires { Valid self }
         ensures { MessageGives self message_id.0 message.now small.old lanes.now small.new result }
     {
         let id = message_id.0;
@@ -115,7 +132,6 @@ impl ReceiveChannelReliable {
         small: &[u8],
         lanes: &mut [u8],
     ) -> Arrived
-        requires { Valid self }
         ensures { SliceGives self message_id.0 num_slices slice_index.0 payload.now small.now lanes.old lanes.new result }
     {
         let id = message_id.0;
@@ -151,7 +167,6 @@ impl ReceiveChannelReliable {
 
     // The message that a take would hand out now.
     pub fn look(self, small: &[u8], lanes: &[u8]) -> Result<Option<Message>, Refusal>
-        requires { Valid self }
         ensures { look_of result ≡ look_at self (length small.now) (length lanes.now) }
     {
         let settings = self.settings;
@@ -166,9 +181,10 @@ impl ReceiveChannelReliable {
 
     // Its bytes, as a part of whichever store holds it; an empty part where nothing is waiting.
     pub fn message<'a>(self, small: &'a [u8], lanes: &'a [u8]) -> &'a [u8]
-        requires { Valid self }
         ensures { result.now ≡ part_at (look_at self (length small.now) (length lanes.now)) small.now lanes.now }
     {
+        // what is shown lies within its store by `Valid`, which the first use of a field brings
+        let _ = &self.settings;
         let Ok(Some(m)) = self.look(small, lanes) else {
             return &small[..0];
         };
@@ -180,7 +196,6 @@ impl ReceiveChannelReliable {
 
     // Hands the waiting message out: its cell or lane is free again, and the next id is awaited.
     pub fn receive_message(mut self) -> Received
-        requires { Valid self }
         ensures { TakeGives self result }
     {
         let Some((store, i)) = self.waiting() else {
@@ -213,7 +228,6 @@ impl ReceiveChannelReliable {
 
     // How many bytes the held messages and the open lanes take.
     pub fn memory_usage_bytes(self) -> usize
-        requires { Valid self }
         ensures { result ≡ self.memory_usage_bytes }
     {
         self.memory_usage_bytes
@@ -221,6 +235,7 @@ impl ReceiveChannelReliable {
 
     // A receiver that holds nothing and awaits id 0.
     fn empty(settings: Settings) -> ReceiveChannelReliable
+        requires { Good settings }
         ensures { result ≡ new_of settings }
     {
         let constructor = SliceConstructor::blank();
@@ -241,7 +256,6 @@ impl ReceiveChannelReliable {
 
     // Where the message with an id is, if it is here.
     fn locate(&self, id: u64) -> Option<Held>
-        requires { Valid self.now }
         ensures { result ≡ held_in self.now id }
     {
         let cell = channel::find(&self.cells, &self.cell_ids, id);
@@ -261,7 +275,6 @@ impl ReceiveChannelReliable {
 
     // Where the message lies that comes out next, if it is whole.
     fn waiting(&self) -> Option<(Store, usize)>
-        requires { Valid self.now }
         ensures { result ≡ whole_of (held_in self.now self.now.oldest_pending_message_id) }
     {
         whole(self.locate(self.oldest_pending_message_id))
@@ -269,7 +282,7 @@ impl ReceiveChannelReliable {
 
     // That message, by the cell or lane that holds it.
     fn shown(&self, store: Store, i: usize) -> Message
-        requires { Valid self.now × (whole_of (held_in self.now self.now.oldest_pending_message_id) ≡ Some (store, i)) }
+        requires { whole_of (held_in self.now self.now.oldest_pending_message_id) ≡ Some (store, i) }
         ensures { look_of (Ok (Some result)) ≡ shown_at self.now store i }
     {
         let id = MessageId(self.oldest_pending_message_id);
@@ -291,12 +304,11 @@ impl ReceiveChannelReliable {
 
     // Keeps a message in lane l, by its constructor: open, or whole.
     fn keep(&mut self, l: usize, id: u64, constructor: SliceConstructor)
-        requires { Valid self.old × Fits self.old l id constructor }
+        requires { Fits self.old l id constructor }
         ensures { self.new ≡ with_lane_of self.old l id constructor }
     {
         let kept = constructor.keep();
-        let charge = self.lane_lens[l];
-        self.memory_usage_bytes = self.memory_usage_bytes - charge + kept.len;
+        self.memory_usage_bytes = self.memory_usage_bytes - self.lane_lens[l] + kept.len;
         self.lanes[l] = true;
         self.whole[l] = kept.whole;
         self.lane_ids[l] = id;
@@ -312,7 +324,7 @@ impl ReceiveChannelReliable {
         small: usize,
         lane: usize,
     ) -> Result<Arrival, Refusal>
-        requires { Valid self.now × (held ≡ held_in self.now id) }
+        requires { held ≡ held_in self.now id }
         ensures { arrival_of result ≡ entry_of self.now id small lane }
     {
         let settings = self.settings;
@@ -340,7 +352,7 @@ impl ReceiveChannelReliable {
         small: usize,
         lane: usize,
     ) -> Result<Arrival, Refusal>
-        requires { Valid self.now × (free ≡ lowest_free_of self.now.cells self.now.settings.slots) }
+        requires { free ≡ lowest_free_of self.now.cells self.now.settings.slots }
         ensures { message_to free result ≡ message_spot self.now id n small lane }
     {
         let held = self.locate(id);
@@ -372,7 +384,7 @@ impl ReceiveChannelReliable {
         small: usize,
         lane: usize,
     ) -> Result<Arrival, Refusal>
-        requires { Valid self.now × (held ≡ held_in self.now id) × (free ≡ lowest_free_of self.now.lanes self.now.settings.lanes) }
+        requires { (held ≡ held_in self.now id) × (free ≡ lowest_free_of self.now.lanes self.now.settings.lanes) }
         ensures { slice_to (lane_for_of held free) result ≡ lane_spot self.now id num_slices small lane }
     {
         if let Arrival::Ignored = self.entry(held, id, small, lane)? {
@@ -397,7 +409,7 @@ impl ReceiveChannelReliable {
 
     // What a message with so many pieces is told that would open the lane `free`.
     fn fresh(&self, free: usize, num_slices: usize) -> Result<Arrival, Refusal>
-        requires { Valid self.now × (free ≡ lowest_free_of self.now.lanes self.now.settings.lanes) × (num_slices ≤ self.now.settings.pieces) }
+        requires { (free ≡ lowest_free_of self.now.lanes self.now.settings.lanes) × (num_slices ≤ self.now.settings.pieces) }
         ensures { slice_to (fresh free) result ≡ fresh_lane self.now num_slices }
     {
         if self.settings.max_memory_usage_bytes

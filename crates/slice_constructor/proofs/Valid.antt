@@ -72,7 +72,7 @@ blank-valid id n below most =
     }
 
 -- a beginning, by its judgement
-begin-good : (id n : ℕ) → begin_refusal id n ≡ 0 → (id < LIMIT) × (n ≤ PIECES)
+pub begin-good : (id n : ℕ) → begin_refusal id n ≡ 0 → (id < LIMIT) × (n ≤ PIECES)
 unfolding begin_refusal All
 begin-good id n e =
     let t = none-refused ((leb LIMIT id, 13) ∷ (eqb n 0, 8) ∷ (ltb PIECES n, 12) ∷ []) refl e in
@@ -88,7 +88,7 @@ module _ (c : SliceConstructor) (v : Valid c) (i n m : ℕ) (g : Good c i n m) w
   pub in_table : i < length c.received
   in_table = omega (arith, v.received-long, v.num-most, g.low)
 
-  more-valid : get_or c.received i false ≡ false → Valid (more c i n)
+  pub more-valid : get_or c.received i false ≡ false → Valid (more c i n)
   more-valid free =
       let size = piece-most c i n m g in
       record {

@@ -1,10 +1,12 @@
 #![tactic(auto)]
 // One reassembly: which pieces of a message are here, where each goes in the lane that is lent for
 // it, and when the message is whole. Pieces come in any order, and may repeat.
-ghost use Rattle.std.specs.Prelude.{◌≡◌, ◌<◌, length, Ok};
+ghost use Rattle.std.specs.Prelude.{◌≡◌, ◌<◌, ◌≤◌, true, length, Ok};
+ghost use Rattle.words.specs.Sizes as sizes;
 ghost use Rattle.slice_constructor.specs.Collect.{Valid, blank_of, begin_number, begin_refusal, BeginGives, start_of, kept_of, sized, collect_refusal, taken, lane_taken, collect_of, answer_of, CollectGives};
 ghost use Rattle.slice_constructor.specs.Steps.{judged_number};
 
+use std::marker::Model;
 use words::{After, LIMIT, MessageId, PIECES, Refusal, SLICE_SIZE, SliceIndex};
 
 // One reassembly. A blank one has no piece to come.
@@ -15,6 +17,22 @@ pub struct SliceConstructor {
     num_received_slices: usize,
     last_len: usize,
     received: [bool; PIECES],
+}
+
+// A contract sees its fields, of which `Valid` is always true.
+impl Model for SliceConstructor {
+    ghost use Rattle.slice_constructor.specs.State.{State};
+
+    ghost Value = { State };
+
+    ghost use Rattle.slice_constructor.specs.Collect.{Valid};
+    ghost use Rattle.slice_constructor.specs.Fields.{state_of, fields_of};
+
+    ghost view = { state_of };
+
+    ghost invariant = { λ a. Valid (state_of a) };
+
+    ghost inverse = { fields_of };
 }
 
 // Whether a reassembly was begun, and its state; a refused one's is blank.
@@ -74,7 +92,6 @@ impl SliceConstructor {
 
     // Takes a piece: its bytes go to its place in the lane, the first time that it comes.
     pub fn process_slice(self, slice_index: SliceIndex, bytes: &[u8], lane: &mut [u8]) -> Collected
-        requires { Valid self }
         ensures { CollectGives self slice_index.0 bytes.now lane.old lane.new result }
     {
         let i = slice_index.0;
@@ -93,7 +110,7 @@ impl SliceConstructor {
 
     // The reassembly that a piece goes to: this one, or for a fresh message one of its own.
     pub fn start(self, fresh: bool, message_id: MessageId, num_slices: usize) -> SliceConstructor
-        requires { Valid (start_of self fresh message_id.0 num_slices) }
+        requires { fresh ≡ true → (message_id.0 < sizes.LIMIT) × (num_slices ≤ sizes.PIECES) }
         ensures { result ≡ start_of self fresh message_id.0 num_slices }
     {
         if fresh {
@@ -104,7 +121,7 @@ impl SliceConstructor {
 
     // What a lane keeps of it.
     pub fn keep(self) -> Kept
-        requires { Valid self × (0 < self.num_slices) }
+        requires { 0 < self.num_slices }
         ensures { result ≡ kept_of self }
     {
         match self.answer() {
@@ -123,6 +140,7 @@ impl SliceConstructor {
 
     // One of which no piece is here yet.
     fn empty(message_id: MessageId, num_slices: usize) -> SliceConstructor
+        requires { (message_id.0 < sizes.LIMIT) × (num_slices ≤ sizes.PIECES) }
         ensures { result ≡ blank_of message_id.0 num_slices }
     {
         SliceConstructor {
@@ -135,20 +153,19 @@ impl SliceConstructor {
     }
 
     // Whether n bytes are a right size for piece i.
-    fn is_sized(self, i: u64, n: usize) -> bool
-        requires { i < self.num_slices }
-        ensures { result ≡ sized self i n }
+    fn is_sized(&self, i: u64, n: usize) -> bool
+        requires { i < self.now.num_slices }
+        ensures { result ≡ sized self.now i n }
     {
-        if i + 1 == self.num_slices as u64 {
+        if self.num_slices as u64 == i + 1 {
             return n <= SLICE_SIZE;
         }
         n == SLICE_SIZE
     }
 
     // Whether a piece of n bytes may be taken, with room bytes lent for the message.
-    fn judge(self, i: u64, n: usize, room: usize) -> Result<(), Refusal>
-        requires { Valid self }
-        ensures { judged_number result ≡ collect_refusal self i n room }
+    fn judge(&self, i: u64, n: usize, room: usize) -> Result<(), Refusal>
+        ensures { (judged_number result ≡ collect_refusal self.now i n room) × Valid self.now }
     {
         if room < self.num_slices * SLICE_SIZE {
             return Err(Refusal::BadStore);
@@ -164,7 +181,7 @@ impl SliceConstructor {
 
     // Takes a piece that was judged good; one that is here already is left as it is.
     fn take(mut self, i: usize, bytes: &[u8], lane: &mut [u8]) -> SliceConstructor
-        requires { Valid self × (collect_refusal self i (length bytes.now) (length lane.old) ≡ 0) }
+        requires { collect_refusal self i (length bytes.now) (length lane.old) ≡ 0 }
         ensures { (result ≡ taken self i (length bytes.now)) × (lane.new ≡ lane_taken self i bytes.now lane.old) }
     {
         if self.received[i] {
@@ -180,9 +197,9 @@ impl SliceConstructor {
     }
 
     // How long the message is, if it is whole.
-    fn answer(self) -> Option<usize>
-        requires { Valid self × (0 < self.num_slices) }
-        ensures { collect_of (Ok result) ≡ answer_of self }
+    fn answer(&self) -> Option<usize>
+        requires { 0 < self.now.num_slices }
+        ensures { collect_of (Ok result) ≡ answer_of self.now }
     {
         if self.num_received_slices == self.num_slices {
             return Some((self.num_slices - 1) * SLICE_SIZE + self.last_len);

@@ -17,9 +17,9 @@ shown c = sym c.look.ensures ∙ ap look_of c.in-Ok-Some.is ∙ ap (λ (o : Opti
 pub part-requires : goal.part-requires
 part-requires c =
     let m = c.in-Ok-Some.m in
-    look-within _ _ _ c.requires m.id.0 m.place m.len Small (shown (goal.at.part-requires c).In-Ok-Some ∙ ap (λ (x : Store). message m.id.0 x m.place m.len) c.in-Small.is)
+    look-within _ _ _ (rw c.self.view_is at c.self.invariant) m.id.0 m.place m.len Small (shown (goal.at.part-requires c).In-Ok-Some ∙ ap (λ (x : Store). message m.id.0 x m.place m.len) c.in-Small.is)
 
 pub part-requires-in-Lanes : goal.part-requires-in-Lanes
 part-requires-in-Lanes c =
     let m = c.in-Ok-Some.m in
-    look-within _ _ _ c.requires m.id.0 m.place m.len Lanes (shown (goal.at.part-requires-in-Lanes c).In-Ok-Some ∙ ap (λ (x : Store). message m.id.0 x m.place m.len) c.in-Lanes.is)
+    look-within _ _ _ (rw c.self.view_is at c.self.invariant) m.id.0 m.place m.len Lanes (shown (goal.at.part-requires-in-Lanes c).In-Ok-Some ∙ ap (λ (x : Store). message m.id.0 x m.place m.len) c.in-Lanes.is)

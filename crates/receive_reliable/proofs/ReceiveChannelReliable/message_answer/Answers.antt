@@ -8,6 +8,7 @@ use Rattle.receive_reliable.specs.Receive.{taken, arrival_of, in_lane_of}
 use Rattle.receive_reliable.specs.Steps.{entry_of}
 use Rattle.receive_reliable.specs.declared.Arrival.{Arrival}
 use Rattle.receive_reliable.specs.declared.Arrival.TheVariants.{Ignored}
+use Rattle.receive_reliable.specs.Fields.{state_of}
 use Rattle.receive_reliable.proofs.Spots.{in-open, no-lane-here}
 use Rattle.receive_reliable.proofs.Answers.{not-held, message-stops, is-open, too_long, wrong-kind, no-memory, no-cell-free, cell_free}
 use Rattle.receive_reliable.proofs.ReceiveChannelReliable.message_answer.Goals as goal
@@ -40,10 +41,16 @@ returns-in-Some c =
     wrong-kind _ _ _ _ _ (goes (goal.at.returns-in-Some c).In_default) c.if-n-gt-SLICE_SIZE.false (in-open c.args.self.now _ _ _ (sym c.locate-held.ensures ∙ o.0)).1
 
 pub returns-then-self-n : goal.returns-then-self-n
-returns-then-self-n c = no-memory _ _ _ _ _ (goes (goal.at.returns-then-self-n c).In_default) c.if-n-gt-SLICE_SIZE.false (no-lane (goal.at.returns-then-self-n c).In_default-open_lane) c.if-self-n.true
+returns-then-self-n c =
+    rw (← c.self.view_is)
+    (no-memory (state_of c.self.inside) _ _ _ _ (rw (← c.self.view_is) at (goes (goal.at.returns-then-self-n c).In_default)) c.if-n-gt-SLICE_SIZE.false (rw (← c.self.view_is) at (no-lane (goal.at.returns-then-self-n c).In_default-open_lane)) c.if-self-n.true)
 
 pub returns-then-self-free : goal.returns-then-self-free
-returns-then-self-free c = no-cell-free _ _ _ _ _ (goes (goal.at.returns-then-self-free c).In_default) c.if-n-gt-SLICE_SIZE.false (no-lane (goal.at.returns-then-self-free c).In_default-open_lane) c.if-self-n.false _ c.requires.1 c.if-self-free.true
+returns-then-self-free c =
+    rw (← c.self.view_is)
+    (no-cell-free (state_of c.self.inside) _ _ _ _ (rw (← c.self.view_is) at (goes (goal.at.returns-then-self-free c).In_default)) c.if-n-gt-SLICE_SIZE.false (rw (← c.self.view_is) at (no-lane (goal.at.returns-then-self-free c).In_default-open_lane)) c.if-self-n.false _ (rw (← c.self.view_is) at c.requires) c.if-self-free.true)
 
 pub returns : goal.returns
-returns c = cell_free _ _ _ _ _ (goes (goal.at.returns c).In_default) c.if-n-gt-SLICE_SIZE.false (no-lane (goal.at.returns c).In_default-open_lane) c.if-self-n.false _ c.requires.1 c.if-self-free.false
+returns c =
+    rw (← c.self.view_is)
+    (cell_free (state_of c.self.inside) _ _ _ _ (rw (← c.self.view_is) at (goes (goal.at.returns c).In_default)) c.if-n-gt-SLICE_SIZE.false (rw (← c.self.view_is) at (no-lane (goal.at.returns c).In_default-open_lane)) c.if-self-n.false _ (rw (← c.self.view_is) at c.requires) c.if-self-free.false)

@@ -2,6 +2,7 @@
 use mathlib.Core.Path.{sym, ap, ◌∙◌}
 use Rattle.std.specs.Prelude.{ℕ, Option, Ok}
 use Rattle.slice_constructor.specs.Collect.{collect_of}
+use Rattle.slice_constructor.specs.Fields.{state_of}
 use Rattle.slice_constructor.proofs.Whole.{whole_answer, missing-answer}
 use Rattle.slice_constructor.proofs.SliceConstructor.keep.Goals as goal
 
@@ -12,4 +13,5 @@ returns-in-Some c =
 
 pub returns-in-None : goal.returns-in-None
 returns-in-None c =
-    rw (missing-answer c.args.self (sym c.answer.ensures ∙ ap (λ (o : Option ℕ). collect_of (Ok o)) c.in-None.is))
+    rw (← c.self.view_is)
+    (rw (missing-answer (state_of c.self.inside) (rw (← c.self.view_is) at (sym c.answer.ensures ∙ ap (λ (o : Option ℕ). collect_of (Ok o)) c.in-None.is))))

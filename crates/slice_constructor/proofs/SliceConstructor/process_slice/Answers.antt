@@ -27,23 +27,22 @@ module _ (c : SliceConstructor) (v : Valid c) (i : ℕ) (bs lane : List ℕ) whe
 
 -- a piece that was judged good
 fine : (c : In_default) → (let a = c.args in collect_refusal a.self a.slice_index.0 (length a.bytes.now) (length a.lane.now) ≡ 0)
-fine c = sym c.judge.ensures ∙ ap judged_number c.in_default.is
+fine c = sym c.judge.ensures.0 ∙ ap judged_number c.in_default.is
 
 pub take-state-requires : goal.take-state-requires
-take-state-requires c = (c.requires, fine (goal.at.take-state-requires c).In_default)
+take-state-requires c = fine (goal.at.take-state-requires c).In_default
 
 pub answer-requires : goal.answer-requires
 answer-requires c =
     let g = good _ _ _ _ (fine (goal.at.answer-requires c).In_default) in
-    let e = c.take-state.ensures.0 in
-    (rw e (taken-valid _ c.requires _ _ _ g), rw (e, taken-num) (omega (arith, g.low)))
+    rw (c.take-state.ensures.0, taken-num) (omega (arith, g.low))
 
 pub returns-in-Err : goal.returns-in-Err
 returns-in-Err c =
-    refused _ c.requires _ _ _ _
-    (sym (ap judged_number c.in-Err.is) ∙ c.judge.ensures)
+    refused _ c.judge.ensures.1 _ _ _ _
+    (sym (ap judged_number c.in-Err.is) ∙ c.judge.ensures.0)
 
 pub returns : goal.returns
 returns c =
     let t = c.take-state.ensures in
-    given _ c.requires _ _ _ _ _ _ (fine (goal.at.returns c).In_default) c.answer.ensures t.0 t.1
+    given _ c.judge.ensures.1 _ _ _ _ _ _ (fine (goal.at.returns c).In_default) c.answer.ensures t.0 t.1
