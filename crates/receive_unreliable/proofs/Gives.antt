@@ -8,7 +8,7 @@ use native.Mathlib.Omega.{arith}
 use borrow.Author.Tests.{eqb-true, lt-ltb, le-ltb}
 use lib.Dec.{eqb}
 use lib.ListN.{length, get_or, take, drop}
-use Rattle.words.specs.Sizes.{SLICE_SIZE, LANES, PIECES}
+use Rattle.words.specs.Sizes.{SLICE_SIZE, LANES, PIECES, LIMIT}
 use Rattle.words.specs.Choice.{pick}
 use Rattle.words.specs.Lists.{splice}
 use Rattle.words.specs.Refusal.{number_of}
@@ -141,13 +141,17 @@ module _ {s : ReceiveChannelUnreliable} {id num i : ℕ} {bs : List ℕ} {t : �
   pub within : l * lane_len_of s.settings + lane_len_of s.settings ≤ length lane
   within = omega (arith, lane-within s.settings l lane_inside, fits.0.lane_room)
 
+  -- a constructor of its own may be made
+  pub starts : (id < LIMIT) × (num ≤ PIECES)
+  starts = let e = fits.0 in (e.below, omega (arith, e.most, x.valid.settings.pieces-most))
+
   -- the constructor that the code has, from what is stored there
   module _ (d k : SliceConstructor) (ek : k ≡ c.start_of (get_or s.constructors l d) b id num) where
     started : k ≡ c.start_of (constructor_at s l) b id num
     started =
         ek ∙ ap (λ (y : SliceConstructor). c.start_of y b id num) (get_d_any s.constructors l d (c.blank_of 0 0) (let low = lane_low in omega (arith, x.valid.constructors-long)))
 
-    pub start_fits : Fits s l k t
+    start_fits : Fits s l k t
     start_fits = rw started fits.1
 
     -- m bytes are lent, and come back
@@ -246,6 +250,9 @@ module _ (s : ReceiveChannelUnreliable) where
   unfolding Lies
   some-waits v Small i e = (cell_lies s v i e).0
   some-waits v Lanes l e = (lane_lies s v l e).0
+
+  pub took-nothing : Valid s → no_place ≡ next_place s → TakeGives s (record { answer = None; state = s })
+  took-nothing v e = record { answer = rw (← e); state = rw (← e); valid = v }
 
   module _ (v : Valid s) (m : Message) (t : ReceiveChannelUnreliable) where
     pub took-small : (i : ℕ) → at-cell i ≡ next_place s → look_of (Ok (Some m)) ≡ shown_at s (at-cell i) → t ≡ without_cell s i → TakeGives s (record { answer = Some m; state = t })

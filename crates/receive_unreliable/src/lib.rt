@@ -2,15 +2,17 @@
 // The receiving end of an unreliable channel. Small messages are held in cells of one lent store,
 // sliced ones are put together in lanes of the other; messages come out in the order in which they
 // became whole.
-ghost use Rattle.std.specs.Prelude.{◌≡◌, [], ◌∷◌, ◌++◌, ℕ, ◌≤◌, ◌<◌, length, get_or, drop, Ok, Some, None};
+ghost use Rattle.std.specs.Prelude.{◌≡◌, [], ◌∷◌, ◌++◌, ℕ, ◌≤◌, ◌<◌, length, get_or, true, false, drop, Ok, Some, None};
 ghost use Rattle.words.specs.Choice.{pick};
 ghost use Rattle.words.specs.Sizes.{LANES, LIMIT};
 ghost use Rattle.words.specs.Lists.{lowest_free_of};
-ghost use Rattle.receive_unreliable.specs.Receive.{ROWS, Valid, new_of, next_place, MadeGives, message_spot, MessageGives, fresh, fresh_lane, lane_spot, with_piece, SliceGives, lowest_id_of, lowest_open, goes_on_of, without_open, DiscardGives, shown_at, look_at, look_of, part_at, TakeGives};
+ghost use Rattle.channel.specs.Settings.{Good};
+ghost use Rattle.receive_unreliable.specs.Receive.{ROWS, new_of, next_place, MadeGives, message_spot, MessageGives, fresh, fresh_lane, lane_spot, with_piece, SliceGives, lowest_id_of, lowest_open, goes_on_of, without_open, DiscardGives, shown_at, look_at, look_of, part_at, TakeGives};
 ghost use Rattle.receive_unreliable.specs.Steps.{held_of, opened_in, message_to, lane_for_of, slice_to, Fits};
 
 use channel::{Opened, ROWS, Settings, Store};
 use slice_constructor::SliceConstructor;
+use std::marker::Model;
 use words::{After, LANES, LIMIT, MessageId, Refusal, SLICE_SIZE, SLOTS, SliceIndex};
 
 // An open message that got no piece for so long, in nanoseconds, may be discarded.
@@ -39,6 +41,22 @@ pub struct ReceiveChannelUnreliable {
     // the messages that wait, in order of completion: a cell i as i, a lane l as SLOTS + l
     count: usize,
     queue: [u8; ROWS],
+}
+
+// A contract sees its fields, of which `Valid` is always true.
+impl Model for ReceiveChannelUnreliable {
+    ghost use Rattle.receive_unreliable.specs.State.{State};
+
+    ghost Value = { State };
+
+    ghost use Rattle.receive_unreliable.specs.Receive.{Valid};
+    ghost use Rattle.receive_unreliable.specs.Fields.{state_of, fields_of};
+
+    ghost view = { state_of };
+
+    ghost invariant = { λ a. Valid (state_of a) };
+
+    ghost inverse = { fields_of };
 }
 
 // Whether it was set up, and the receiver.
@@ -83,7 +101,6 @@ impl ReceiveChannelUnreliable {
     // Takes a small message: its bytes go to the front of the lowest free cell, and it waits as the
     // last of the queue.
     pub fn process_message(mut self, message: &[u8], small: &mut [u8], lanes: &[u8]) -> Arrived
-        requires { Valid self }
         ensures { MessageGives self message.now small.old lanes.now small.new result }
     {
         let n = message.len();
@@ -120,7 +137,6 @@ impl ReceiveChannelUnreliable {
         small: &[u8],
         lanes: &mut [u8],
     ) -> Arrived
-        requires { Valid self }
         ensures { SliceGives self message_id.0 num_slices slice_index.0 payload.now current_time small.now lanes.old lanes.new result }
     {
         let id = message_id.0;
@@ -165,7 +181,6 @@ impl ReceiveChannelUnreliable {
     // Drops open messages that got no piece for DISCARD_AFTER, from the lowest id up to the first
     // one that is younger.
     pub fn discard_incomplete_old_slices(mut self, current_time: u64) -> Discarded
-        requires { Valid self }
         ensures { DiscardGives self current_time result }
     {
         if current_time < self.latest {
@@ -192,7 +207,6 @@ impl ReceiveChannelUnreliable {
 
     // The message that a take would hand out now.
     pub fn look(self, small: &[u8], lanes: &[u8]) -> Result<Option<Message>, Refusal>
-        requires { Valid self }
         ensures { look_of result ≡ look_at self (length small.now) (length lanes.now) }
     {
         let settings = self.settings;
@@ -207,9 +221,10 @@ impl ReceiveChannelUnreliable {
 
     // Its bytes, as a part of whichever store holds it; an empty part where nothing is waiting.
     pub fn message<'a>(self, small: &'a [u8], lanes: &'a [u8]) -> &'a [u8]
-        requires { Valid self }
         ensures { result.now ≡ part_at (look_at self (length small.now) (length lanes.now)) small.now lanes.now }
     {
+        // what is shown lies within its store by `Valid`, which the first use of a field brings
+        let _ = &self.settings;
         let Ok(Some(m)) = self.look(small, lanes) else {
             return &small[..0];
         };
@@ -221,7 +236,6 @@ impl ReceiveChannelUnreliable {
 
     // Hands the first message of the queue out: its cell or lane is free again.
     pub fn receive_message(mut self) -> Received
-        requires { Valid self }
         ensures { TakeGives self result }
     {
         let Some((store, i)) = self.next() else {
@@ -253,7 +267,6 @@ impl ReceiveChannelUnreliable {
 
     // How many bytes the waiting messages and the open lanes take.
     pub fn memory_usage_bytes(self) -> usize
-        requires { Valid self }
         ensures { result ≡ self.memory_usage_bytes }
     {
         self.memory_usage_bytes
@@ -261,6 +274,7 @@ impl ReceiveChannelUnreliable {
 
     // A receiver that holds nothing.
     fn empty(settings: Settings) -> ReceiveChannelUnreliable
+        requires { Good settings }
         ensures { result ≡ new_of settings }
     {
         let constructor = SliceConstructor::blank();
@@ -283,7 +297,6 @@ impl ReceiveChannelUnreliable {
 
     // Where the first message of the queue is held.
     fn next(&self) -> Option<(Store, usize)>
-        requires { Valid self.now }
         ensures { held_of result ≡ next_place self.now }
     {
         if self.count == 0 {
@@ -298,7 +311,7 @@ impl ReceiveChannelUnreliable {
 
     // That message, by the cell or lane that holds it.
     fn shown(&self, store: Store, i: usize) -> Message
-        requires { Valid self.now × (held_of (Some (store, i)) ≡ next_place self.now) }
+        requires { held_of (Some (store, i)) ≡ next_place self.now }
         ensures { look_of (Ok (Some result)) ≡ shown_at self.now (held_of (Some (store, i))) }
     {
         match store {
@@ -317,7 +330,6 @@ impl ReceiveChannelUnreliable {
 
     // The lane of the open message with an id, if it is open.
     fn locate(&self, id: u64) -> Option<Opened>
-        requires { Valid self.now }
         ensures { result ≡ opened_in self.now id }
     {
         let lane = channel::find(&self.opens, &self.lane_ids, id);
@@ -330,7 +342,7 @@ impl ReceiveChannelUnreliable {
 
     // The lane of the open message with the lowest id, if that one got no piece for DISCARD_AFTER.
     fn old_lane(&self, current_time: u64) -> Option<usize>
-        requires { Valid self.now × (self.now.latest ≤ current_time) }
+        requires { self.now.latest ≤ current_time }
         ensures { result ≡ pick (goes_on_of self.now current_time) (Some (lowest_open self.now)) None }
     {
         let id = lowest_id(&self.opens, &self.lane_ids);
@@ -346,7 +358,7 @@ impl ReceiveChannelUnreliable {
 
     // Drops the open message of lane l: the lane is free again.
     fn discard(&mut self, l: usize)
-        requires { Valid self.old × (l < LANES) }
+        requires { (l < LANES) × (get_or self.old.opens l false ≡ true) }
         ensures { self.new ≡ without_open self.old l }
     {
         let charge = self.lane_lens[l];
@@ -367,7 +379,7 @@ impl ReceiveChannelUnreliable {
         small: usize,
         lane: usize,
     ) -> Result<Arrival, Refusal>
-        requires { Valid self.now × (free ≡ lowest_free_of self.now.cells self.now.settings.slots) }
+        requires { free ≡ lowest_free_of self.now.cells self.now.settings.slots }
         ensures { message_to free result ≡ message_spot self.now n small lane }
     {
         let settings = self.settings;
@@ -397,7 +409,7 @@ impl ReceiveChannelUnreliable {
         small: usize,
         lane: usize,
     ) -> Result<Arrival, Refusal>
-        requires { Valid self.now × (opened ≡ opened_in self.now id) × (free ≡ lowest_free_of self.now.lanes self.now.settings.lanes) }
+        requires { (opened ≡ opened_in self.now id) × (free ≡ lowest_free_of self.now.lanes self.now.settings.lanes) }
         ensures { slice_to (lane_for_of opened free) result ≡ lane_spot self.now id num_slices current_time small lane }
     {
         let settings = self.settings;
@@ -429,7 +441,7 @@ impl ReceiveChannelUnreliable {
 
     // What a message with so many pieces is told that would open the lane `free`.
     fn fresh(&self, free: usize, num_slices: usize) -> Result<Arrival, Refusal>
-        requires { Valid self.now × (free ≡ lowest_free_of self.now.lanes self.now.settings.lanes) × (num_slices ≤ self.now.settings.pieces) }
+        requires { (free ≡ lowest_free_of self.now.lanes self.now.settings.lanes) × (num_slices ≤ self.now.settings.pieces) }
         ensures { slice_to (fresh free) result ≡ fresh_lane self.now num_slices }
     {
         if self.settings.max_memory_usage_bytes
@@ -446,12 +458,11 @@ impl ReceiveChannelUnreliable {
     // Keeps a message in lane l after a piece, by its constructor: open, or whole and the last of the
     // queue. A repeat renews the time too.
     fn keep(&mut self, l: usize, constructor: SliceConstructor, current_time: u64)
-        requires { Valid self.old × Fits self.old l constructor current_time }
+        requires { Fits self.old l constructor current_time }
         ensures { self.new ≡ with_piece self.old l constructor current_time }
     {
         let kept = constructor.keep();
-        let charge = self.lane_lens[l];
-        self.memory_usage_bytes = self.memory_usage_bytes - charge + kept.len;
+        self.memory_usage_bytes = self.memory_usage_bytes - self.lane_lens[l] + kept.len;
         self.latest = current_time;
         self.lanes[l] = true;
         self.lane_lens[l] = kept.len;

@@ -5,8 +5,8 @@ use Rattle.receive_unreliable.proofs.ReceiveChannelUnreliable.locate.Goals as go
 
 pub returns-then-lane-ge-LANES : goal.returns-then-lane-ge-LANES
 unfolding opened_by
-returns-then-lane-ge-LANES c = rw (← c.find-lane.ensures, le-ltb _ _ c.if-lane-ge-LANES.true)
+returns-then-lane-ge-LANES c = rw (← c.self.view_is, ← c.find-lane.ensures, le-ltb _ _ c.if-lane-ge-LANES.true)
 
 pub returns : goal.returns
 unfolding opened_by
-returns c = rw (← c.find-lane.ensures, lt-ltb _ _ c.if-lane-ge-LANES.false)
+returns c = rw (← c.self.view_is, ← c.find-lane.ensures, lt-ltb _ _ c.if-lane-ge-LANES.false)

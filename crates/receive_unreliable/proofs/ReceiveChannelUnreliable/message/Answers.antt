@@ -17,10 +17,10 @@ pub part-requires : goal.part-requires
 unfolding Within
 part-requires c =
     let m = c.in-Ok-Some.m in
-    subst (Within _ _) (shown (goal.at.part-requires c).In-Ok-Some ∙ ap (λ (x : Store). message x m.place m.len) c.in-Small.is) (look-within _ c.requires _ _)
+    subst (Within _ _) (shown (goal.at.part-requires c).In-Ok-Some ∙ ap (λ (x : Store). message x m.place m.len) c.in-Small.is) (look-within _ (rw c.self.view_is at c.self.invariant) _ _)
 
 pub part-requires-in-Lanes : goal.part-requires-in-Lanes
 unfolding Within
 part-requires-in-Lanes c =
     let m = c.in-Ok-Some.m in
-    subst (Within _ _) (shown (goal.at.part-requires-in-Lanes c).In-Ok-Some ∙ ap (λ (x : Store). message x m.place m.len) c.in-Lanes.is) (look-within _ c.requires _ _)
+    subst (Within _ _) (shown (goal.at.part-requires-in-Lanes c).In-Ok-Some ∙ ap (λ (x : Store). message x m.place m.len) c.in-Lanes.is) (look-within _ (rw c.self.view_is at c.self.invariant) _ _)
