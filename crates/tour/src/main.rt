@@ -3,11 +3,11 @@
 //
 // Both ends stand in this one program, so that it reads from top to bottom; between two machines the
 // packets would go through a socket. States go into a call by value and come back beside its answer, and
-// all memory is the caller's. The library asks one thing of a caller: that a state is one that it made
-// (`Valid`). Every call promises that of the state it hands out, so nearly all of this is proved unasked.
+// all memory is the caller's. The library asks nothing of a caller: that a state is one that its calls
+// made stands in the state's type, so all of this is proved unasked.
 ghost use Rattle.std.specs.Prelude.{◌≡◌, length};
 ghost use Rattle.receive_reliable.specs.Receive as r;
-ghost use Rattle.tour.specs.Tour.{Ready, Queues, MessageArrives, PieceArrives};
+ghost use Rattle.tour.specs.Tour.{Queues, MessageArrives, PieceArrives};
 
 use channel::Settings;
 use pack::{Budget, Written};
@@ -55,8 +55,7 @@ const MESSAGE_TABLE: usize = MESSAGE * MESSAGES;
 // The standard output.
 const STDOUT: i32 = 1;
 
-// Both ends. That they are states which the library made (`Ready`) is said by each contract: a ghost field
-// that says it was tried, and needs a proof that any two proofs of `Valid` are equal, which isn't found.
+// Both ends.
 #[derive(Clone, Copy)]
 struct Ends {
     sender: SendChannelReliable,
@@ -89,8 +88,6 @@ fn main() {
 
 // The first packet is lost. It had a piece of the first message, so nothing can come out yet.
 fn lossy(e: Ends, near: &Stores, far: &mut Stores) -> Rounded
-    requires { Ready e }
-    ensures { Ready result.ends }
 {
     let r = cross(e, Sequence(0), 0, 1, near, far);
     Rounded {
@@ -101,8 +98,6 @@ fn lossy(e: Ends, near: &Stores, far: &mut Stores) -> Rounded
 
 // After the resend time the missing piece goes again, and nothing else: both messages come out.
 fn again(r: Rounded, near: &Stores, far: &mut Stores) -> Ends
-    requires { Ready r.ends }
-    ensures { Ready result }
 {
     let next = r.written.next_sequence;
     let r = cross(r.ends, next, RESEND_TIME, 0, near, far);
@@ -111,8 +106,6 @@ fn again(r: Rounded, near: &Stores, far: &mut Stores) -> Ends
 
 // Queues a message that goes in pieces, and a small one.
 fn queue_both(e: Ends, near: &mut Stores) -> Ends
-    requires { Ready e }
-    ensures { Ready result }
 {
     let mut long = [b'a'; LONG];
     long[SLICE_SIZE] = b'z';
@@ -122,7 +115,6 @@ fn queue_both(e: Ends, near: &mut Stores) -> Ends
 
 // Sets both ends up, for channel 0. Settings outside their ranges would be refused (9).
 fn start() -> Ends
-    ensures { Ready result }
 {
     let settings = Settings {
         slots: SLOTS,
@@ -138,7 +130,6 @@ fn start() -> Ends
 
 // Queues a message. Its bytes are copied to a store.
 fn queue(e: Ends, message: &[u8], near: &mut Stores) -> Ends
-    requires { Ready e }
     ensures { Queues e (length message.now) (length near.old.small) (length near.old.lanes) result }
 {
     let queued = e
@@ -160,8 +151,6 @@ fn cross(
     near: &Stores,
     far: &mut Stores,
 ) -> Rounded
-    requires { Ready e }
-    ensures { Ready result.ends }
 {
     let mut wire = [0u8; WIRE];
     let mut table = [0u64; TABLE];
@@ -181,8 +170,7 @@ fn round(
     wire: &mut [u8],
     table: &mut [u64],
 ) -> Rounded
-    requires { Ready e }
-    ensures { Ready result.ends × (result.ends.receiver ≡ e.receiver) }
+    ensures { result.ends.receiver ≡ e.receiver }
 {
     let small = &near.small;
     let lanes = &near.lanes;
@@ -207,8 +195,6 @@ fn deliver_from(
     table: &[u64; TABLE],
     far: &mut Stores,
 ) -> Ends
-    requires { Ready e }
-    ensures { Ready result }
 {
     let mut ends = e;
     for i in k..packets {
@@ -220,8 +206,6 @@ fn deliver_from(
 // Reads a packet and hands what is in it to the receiver. A program with more channels looks at the
 // packet's `channel_id` first.
 fn deliver(e: Ends, packet: &[u8], far: &mut Stores) -> Ends
-    requires { Ready e }
-    ensures { Ready result }
 {
     let mut messages = [0u64; MESSAGE_TABLE];
     let mut ranges = [Range { start: 0, end: 0 }; RANGES];
@@ -244,8 +228,6 @@ fn deliver_small(
     messages: &[u64; MESSAGE_TABLE],
     far: &mut Stores,
 ) -> Ends
-    requires { Ready e }
-    ensures { Ready result }
 {
     let mut ends = e;
     for i in 0..count {
@@ -258,7 +240,6 @@ fn deliver_small(
 // Delivers a small message; the sender hears of it if it was taken. Between two machines the numbers of
 // packets come back in an Ack packet, and the sender's side keeps which messages each packet had.
 fn deliver_message(e: Ends, id: MessageId, message: &[u8], far: &mut Stores) -> Ends
-    requires { Ready e }
     ensures { MessageArrives e id.0 (length message.now) (length far.old.small) (length far.old.lanes) result }
 {
     let arrived = e
@@ -276,7 +257,6 @@ fn deliver_message(e: Ends, id: MessageId, message: &[u8], far: &mut Stores) -> 
 
 // Delivers a piece of a long message, in the same way.
 fn deliver_piece(e: Ends, p: Slice, piece: &[u8], far: &mut Stores) -> Ends
-    requires { Ready e }
     ensures { PieceArrives e p.message_id.0 p.num_slices p.slice_index.0
         (length piece.now) (length far.old.small) (length far.old.lanes) result }
 {
@@ -298,8 +278,7 @@ fn deliver_piece(e: Ends, p: Slice, piece: &[u8], far: &mut Stores) -> Ends
 // Takes the message that comes next, if it is here. Its bytes are a part of a store, so they are read
 // before the take, which frees their place.
 fn take(e: Ends, far: &Stores) -> Ends
-    requires { Ready e }
-    ensures { Ready result × (result.sender ≡ e.sender) × (result.receiver ≡ r.after_take e.receiver) }
+    ensures { (result.sender ≡ e.sender) × (result.receiver ≡ r.after_take e.receiver) }
 {
     let look = e.receiver.look(&far.small, &far.lanes);
     say_out(look, e.receiver.message(&far.small, &far.lanes));
@@ -404,7 +383,6 @@ fn say_round(answer: Result<Written, Refusal>, sequence: Sequence) -> Written {
 
 // Says how many bytes wait at each end.
 fn say_usage(e: Ends)
-    requires { Ready e }
 {
     say(
         b"bytes in use: sender ",
