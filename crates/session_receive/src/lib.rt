@@ -31,7 +31,8 @@ pub struct Told {
     pub at: usize,
 }
 
-// A call on its way: which receiver it is for, the call, and the place for its answer.
+// A call on its way: which receiver it is for, the number of the call, the line, and the place for its
+// answer. A line that is read tells a call by its place in the list of `read`.
 #[derive(Clone, Copy)]
 struct Turn {
     reliable: bool,
@@ -123,7 +124,7 @@ fn whole() -> Stores
     }
 }
 
-// The calls, in the order of these numbers. Only the unreliable receiver discards.
+// The calls, in the order of the numbers below. Only the unreliable receiver discards.
 pub fn read(reliable: bool, s: &[u8], at: usize, numbers: &mut [u64], bytes: &mut [u8]) -> Read
     ensures { leaves result numbers.new bytes.new ≡ taken_apart_of (calls_of reliable) s.now at numbers.old bytes.old }
 {

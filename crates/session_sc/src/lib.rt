@@ -38,7 +38,7 @@ pub fn start() -> End
     }
 }
 
-// The calls, in the order of `answer`.
+// The calls, in the order of `answer`: a line that is read tells a call by its place in the list.
 pub fn read(line: &[u8], from: usize, numbers: &mut [u64], bytes: &mut [u8]) -> Read
     ensures { leaves result numbers.new bytes.new ≡ taken_apart_of (ascii "new nn slice nb lend E digest -") line.now from numbers.old bytes.old }
 {
