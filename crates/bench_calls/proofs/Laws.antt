@@ -2,41 +2,41 @@
 use Prim.Native.Nat.{ℕ}
 use mathlib.Core.Path.{◌≡◌, refl, subst}
 use mathlib.Core.List.{List}
+use denote.Ref.{MutBor}
 use Rattle.std.specs.Fn.{Shared}
 use Rattle.bench_calls.specs.Times.{Times, none, more, Left, Held, held}
 use Rattle.bench_calls.specs.Calls.{Bytes, Steps, StepsAt, StepsAtBoth}
 
 -- ---- calls of a closure, as calls by Step of what `of` makes of each state
 
-module _ {F S T : Type 0} (of : S → T) (Valid : S → Type 0) {g : Shared F (S × (ℕ × Unit {0})) S} {f : F} {Step : ℕ → T → T → Type 0}
-    (each : (k : ℕ) (s t : S) → Valid s → g.post f (s, (k, tt)) t → Step k (of s) (of t) × Valid t) where
-  pub carried : {n : ℕ} {s t : S} → Valid s → Times (Steps g f) n s t → Times Step n (of s) (of t) × Valid t
+module _ {F S : Type 0} (Valid : S → Type 0) {g : Shared F (MutBor S × (ℕ × Unit {0})) (Unit {0} × (MutBor S × Unit {0}))} {f : F} {Step : ℕ → S → S → Type 0}
+    (each : (k : ℕ) (s t : MutBor S) → Valid s.now → g.post f (s, (k, tt)) (tt, (t, tt)) → Step k s.now t.now × Valid t.now) where
+  pub carried : {n : ℕ} {s t : S} → Valid s → Times (Steps g f) n s t → Times Step n s t × Valid t
   carried v none = (none, v)
   carried v (more ts t) =
       let before = carried v ts in
-      let now = each _ _ _ before.1 t.met in
-      (more before.0 now.0, now.1)
+      let now = each _ t.shown t.left (rw t.shows before.1) t.met in
+      (more before.0 (rw (← t.shows, ← t.leaves) now.0), subst Valid t.leaves now.1)
 
-module _ {F S T : Type 0} (of : S → List ℕ → T) (Valid : S → Type 0) {g : Shared F (S × (ℕ × (Bytes × Unit {0}))) (S × (Bytes × Unit {0}))} {f : F} {Step : ℕ → T → T → Type 0}
-    (each : (k : ℕ) (s t : S) (m m' : Bytes) → Valid s → g.post f (s, (k, (m, tt))) (t, (m', tt)) → Step k (of s m.now) (of t m'.now) × Valid t) where
+module _ {F S T : Type 0} (of : S → List ℕ → T) (Valid : S → Type 0) {g : Shared F (MutBor S × (ℕ × (Bytes × Unit {0}))) (Unit {0} × (MutBor S × (Bytes × Unit {0})))} {f : F} {Step : ℕ → T → T → Type 0}
+    (each : (k : ℕ) (s t : MutBor S) (m m' : Bytes) → Valid s.now → g.post f (s, (k, (m, tt))) (tt, (t, (m', tt))) → Step k (of s.now m.now) (of t.now m'.now) × Valid t.now) where
   pub carried-at : {n : ℕ} {a b : S × List ℕ} → Valid a.0 → Times (StepsAt g f) n a b → Times Step n (of a.0 a.1) (of b.0 b.1) × Valid b.0
   carried-at v none = (none, v)
   carried-at v (more {t = c} {u = b} ts t) =
       let before = carried-at v ts in
-      let now = each _ c.0 b.0 t.shown t.left before.1 t.met in
-      (more before.0 (subst (λ x. Step _ (of c.0 x) (of b.0 b.1)) t.shows (subst (λ x. Step _ (of c.0 t.shown.now) (of b.0 x)) t.leaves now.0)), now.1)
+      let now = each _ t.shown t.left t.store t.store' (rw t.shows.0 before.1) t.met in
+      (more before.0 (rw (← t.shows.0, ← t.shows.1, ← t.leaves.0, ← t.leaves.1) now.0), subst Valid t.leaves.0 now.1)
 
-module _ {F S : Type 0} (Valid : S → Type 0) {g : Shared F (S × (ℕ × (Bytes × (Bytes × Unit {0})))) (S × (Bytes × (Bytes × Unit {0})))} {f : F} {Step : ℕ → Held S → Held S → Type 0}
-    (each : (k : ℕ) (s t : S) (m l m' l' : Bytes) → Valid s → g.post f (s, (k, (m, (l, tt)))) (t, (m', (l', tt))) → Step k (held s m.now l.now) (held t m'.now l'.now) × Valid t) where
+module _ {F S : Type 0} (Valid : S → Type 0) {g : Shared F (MutBor S × (ℕ × (Bytes × (Bytes × Unit {0})))) (Unit {0} × (MutBor S × (Bytes × (Bytes × Unit {0}))))} {f : F} {Step : ℕ → Held S → Held S → Type 0}
+    (each : (k : ℕ) (s t : MutBor S) (m l m' l' : Bytes) → Valid s.now → g.post f (s, (k, (m, (l, tt)))) (tt, (t, (m', (l', tt)))) → Step k (held s.now m.now l.now) (held t.now m'.now l'.now) × Valid t.now) where
   pub carried-at-both : {n : ℕ} {a b : Held S} → Valid a.state → Times (StepsAtBoth g f) n a b → Times Step n a b × Valid b.state
   carried-at-both v none = (none, v)
-  carried-at-both v (more {t = c} {u = b} ts t) =
+  carried-at-both v (more {n = k} {t = c} {u = b} ts t) =
       let before = carried-at-both v ts in
-      let now = each _ c.state b.state t.small t.lanes t.small' t.lanes' before.1 t.met in
-      let here = subst (λ x. Step _ (held c.state x t.lanes.now) (held b.state t.small'.now t.lanes'.now)) t.shows.0 now.0 in
-      let here = subst (λ x. Step _ (held c.state c.small x) (held b.state t.small'.now t.lanes'.now)) t.shows.1 here in
-      let here = subst (λ x. Step _ c (held b.state x t.lanes'.now)) t.leaves.0 here in
-      (more before.0 (subst (λ x. Step _ c (held b.state b.small x)) t.leaves.1 here), now.1)
+      let now = each k t.shown t.left t.small t.lanes t.small' t.lanes' (rw t.shows.0 before.1) t.met in
+      let from : held t.shown.now t.small.now t.lanes.now ≡ c = λ i. record { state = t.shows.0 i; small = t.shows.1 i; lanes = t.shows.2 i } in
+      let to : held t.left.now t.small'.now t.lanes'.now ≡ b = λ i. record { state = t.leaves.0 i; small = t.leaves.1 i; lanes = t.leaves.2 i } in
+      (more before.0 (subst (λ x. Step k x b) from (subst (λ x. Step k (held t.shown.now t.small.now t.lanes.now) x) to now.0)), subst Valid t.leaves.0 now.1)
 
 -- ---- one call
 

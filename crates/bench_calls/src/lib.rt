@@ -108,21 +108,22 @@ pub extern "C" fn bench_read(bytes: &[u8], messages: &mut [u64], ranges: &mut [R
 
 // ---- calls one after the other
 
-// So many steps from a state, each told its number.
-fn times<S, F: Fn(S, usize) -> S>(first: S, count: usize, step: F) -> S
+// So many steps from a state, each told its number. A step changes the state in place: handed over and back
+// it would be copied once more.
+fn times<S, F: Fn(&mut S, usize)>(first: S, count: usize, step: F) -> S
     requires begins { Takes F.Fn step first 0 }
     requires goes_on { (k : ℕ) (s t : S) → k + 1 < count → Steps F.Fn step k s t → Takes F.Fn step t (k + 1) }
     ensures { Times (Steps F.Fn step) count first result }
 {
     let mut state = first;
     for k in 0..count {
-        state = step(state, k);
+        step(&mut state, k);
     }
     state
 }
 
 // The same, where each step is lent a store.
-fn times_at<S, F: Fn(S, usize, &mut [u8]) -> S>(
+fn times_at<S, F: Fn(&mut S, usize, &mut [u8])>(
     first: S,
     count: usize,
     store: &mut [u8],
@@ -134,13 +135,13 @@ fn times_at<S, F: Fn(S, usize, &mut [u8]) -> S>(
 {
     let mut state = first;
     for k in 0..count {
-        state = step(state, k, store);
+        step(&mut state, k, store);
     }
     state
 }
 
 // The same, where each step is lent two stores.
-fn times_at_both<S, F: Fn(S, usize, &mut [u8], &mut [u8]) -> S>(
+fn times_at_both<S, F: Fn(&mut S, usize, &mut [u8], &mut [u8])>(
     first: S,
     count: usize,
     small: &mut [u8],
@@ -153,7 +154,7 @@ fn times_at_both<S, F: Fn(S, usize, &mut [u8], &mut [u8]) -> S>(
 {
     let mut state = first;
     for k in 0..count {
-        state = step(state, k, small, lanes);
+        step(&mut state, k, small, lanes);
     }
     state
 }
@@ -171,7 +172,7 @@ fn sr_queued(
 {
     let made = SendChannelReliable::new(0, LARGEST, 0);
     times_at_both(made.state, count, small, lanes, |s, _, small, lanes| {
-        s.send_message(message, small, lanes).state
+        *s = s.send_message(message, small, lanes).state
     })
 }
 
@@ -181,7 +182,7 @@ fn sr_acked(first: SendChannelReliable, count: usize) -> SendChannelReliable
     ensures { Times ends.SrAcks count first result × sr.Valid result }
 {
     times(first, count, |s, k| {
-        s.process_message_ack(MessageId(k as u64)).state
+        *s = s.process_message_ack(MessageId(k as u64)).state
     })
 }
 
@@ -191,7 +192,8 @@ fn sr_acked_pieces(first: SendChannelReliable, count: usize) -> SendChannelRelia
     ensures { Times ends.SrAcksPiece count first result × sr.Valid result }
 {
     times(first, count, |s, k| {
-        s.process_slice_message_ack(MessageId(0), SliceIndex(k as u64))
+        *s = s
+            .process_slice_message_ack(MessageId(0), SliceIndex(k as u64))
             .state
     })
 }
@@ -287,7 +289,7 @@ fn su_queued(
 {
     let made = SendChannelUnreliable::new(0, LARGEST);
     times_at_both(made.state, count, small, lanes, |s, _, small, lanes| {
-        s.send_message(message, small, lanes).state
+        *s = s.send_message(message, small, lanes).state
     })
 }
 
@@ -334,7 +336,8 @@ fn rr_received(
 {
     let made = ReceiveChannelReliable::new(LARGEST);
     times_at(made.state, count, small, |s, k, small| {
-        s.process_message(MessageId(k as u64), message, small, lanes)
+        *s = s
+            .process_message(MessageId(k as u64), message, small, lanes)
             .state
     })
 }
@@ -351,7 +354,8 @@ fn rr_collected(
     let made = ReceiveChannelReliable::new(LARGEST);
     times_at(made.state, count, lanes, |s, k, lanes| {
         let index = SliceIndex(k as u64);
-        s.process_slice(MessageId(0), index, count as u64, payload, small, lanes)
+        *s = s
+            .process_slice(MessageId(0), index, count as u64, payload, small, lanes)
             .state
     })
 }
@@ -361,7 +365,7 @@ fn rr_taken(first: ReceiveChannelReliable, count: usize) -> ReceiveChannelReliab
     requires { rr.Valid first }
     ensures { Times ends.RrTakes count first result × rr.Valid result }
 {
-    times(first, count, |s, _| s.receive_message().state)
+    times(first, count, |s, _| *s = s.receive_message().state)
 }
 
 #[unsafe(no_mangle)]
@@ -407,7 +411,7 @@ fn ru_received(
 {
     let made = ReceiveChannelUnreliable::new(LARGEST);
     times_at(made.state, count, small, |s, _, small| {
-        s.process_message(message, small, lanes).state
+        *s = s.process_message(message, small, lanes).state
     })
 }
 
@@ -423,7 +427,8 @@ fn ru_collected(
     let made = ReceiveChannelUnreliable::new(LARGEST);
     times_at(made.state, count, lanes, |s, k, lanes| {
         let index = SliceIndex(k as u64);
-        s.process_slice(MessageId(0), index, count as u64, payload, 0, small, lanes)
+        *s = s
+            .process_slice(MessageId(0), index, count as u64, payload, 0, small, lanes)
             .state
     })
 }
@@ -433,7 +438,7 @@ fn ru_taken(first: ReceiveChannelUnreliable, count: usize) -> ReceiveChannelUnre
     requires { ru.Valid first }
     ensures { Times ends.RuTakes count first result × ru.Valid result }
 {
-    times(first, count, |s, _| s.receive_message().state)
+    times(first, count, |s, _| *s = s.receive_message().state)
 }
 
 #[unsafe(no_mangle)]

@@ -11,7 +11,7 @@ returns c =
     let made = c.new-made in
     let calls = carried-at (λ s m. held s c.args.small.now m) Valid
     (λ k s t m m' v p.
-    let called : (r : Arrived) × SliceGives s 0 c.args.count k c.args.payload.now 0 c.args.small.now m.now m'.now r × (t ≡ r.state) = search rules in
+    let called : (r : Arrived) × SliceGives s.now 0 c.args.count k c.args.payload.now 0 c.args.small.now m.now m'.now r × (t.now ≡ r.state) = search rules in
     let l = kept Valid (λ r g. g.valid) called in
     ((l.0, refl), l.1))
     made.ensures.valid c.times_at.ensures in

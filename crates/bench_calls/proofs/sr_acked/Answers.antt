@@ -5,4 +5,4 @@ use Rattle.bench_calls.proofs.Laws.{carried, kept}
 use Rattle.bench_calls.proofs.sr_acked.Goals as goal
 
 pub returns : goal.returns
-returns c = carried (λ s. s) Valid (λ k s t v p. kept Valid (λ r g. g.valid) (search rules)) c.requires c.times.ensures
+returns c = carried Valid (λ k s t v p. kept Valid (λ r g. g.valid) (search rules)) c.requires c.times.ensures

@@ -1,5 +1,5 @@
 -- `bench_calls::times` meets its contract: each turn is one step. Assumes nothing.
-use mathlib.Core.Path.{◌≡◌}
+use mathlib.Core.Path.{◌≡◌, refl}
 use native.Mathlib.Omega.{arith}
 use native.Mathlib.Numerals.{add-one}
 use Rattle.bench_calls.specs.Times.{none, more}
@@ -11,7 +11,7 @@ loop-k-init g c = (none, λ _. c.requires.begins)
 
 pub loop-k-preserved : goal.loop-k-preserved
 loop-k-preserved g c =
-    let went : Steps _ _ _ _ _ = record { met = c.step-state.ensures } in
+    let went : Steps _ _ _ _ _ = record { shown = _; left = _; shows = refl; met = c.step.ensures; leaves = refl } in
     (rw add-one (more c.loop-k.invariant.0 went), λ lt. c.requires.goes_on _ _ _ lt went)
 
 pub returns : goal.returns

@@ -11,7 +11,7 @@ loop-k-init g c = (none, λ _. c.requires.begins)
 
 pub loop-k-preserved : goal.loop-k-preserved
 loop-k-preserved g c =
-    let went : StepsAt _ _ _ (_, _) (_, _) = record { shown = _; left = _; shows = refl; met = c.step-state.ensures; leaves = refl } in
+    let went : StepsAt _ _ _ (_, _) (_, _) = record { shown = _; store = _; left = _; store' = _; shows = (refl, refl); met = c.step.ensures; leaves = (refl, refl) } in
     (rw add-one (more c.loop-k.invariant.0 went), λ lt. c.requires.goes_on _ _ _ lt went)
 
 pub returns : goal.returns

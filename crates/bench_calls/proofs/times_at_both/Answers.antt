@@ -11,7 +11,7 @@ loop-k-init g c = (none, λ _. c.requires.begins)
 
 pub loop-k-preserved : goal.loop-k-preserved
 loop-k-preserved g c =
-    let went : StepsAtBoth _ _ _ (held _ _ _) (held _ _ _) = record { small = _; lanes = _; small' = _; lanes' = _; shows = (refl, refl); met = c.step-state.ensures; leaves = (refl, refl) } in
+    let went : StepsAtBoth _ _ _ (held _ _ _) (held _ _ _) = record { shown = _; small = _; lanes = _; left = _; small' = _; lanes' = _; shows = (refl, refl, refl); met = c.step.ensures; leaves = (refl, refl, refl) } in
     (rw add-one (more c.loop-k.invariant.0 went), λ lt. c.requires.goes_on _ _ _ lt went)
 
 pub returns : goal.returns
