@@ -2,8 +2,6 @@
 // Calls on the two senders. A call answers a value, and the page comes in where that is said.
 ghost use Rattle.std.specs.Prelude.{◌≡◌, ◌≤◌, length};
 ghost use Rattle.arguments.specs.Arguments.{leaves, taken_apart_of};
-ghost use Rattle.send_reliable.specs.Sender as srv;
-ghost use Rattle.send_unreliable.specs.Sender as suv;
 ghost use Rattle.session_send.specs.Calls.{calls_of};
 ghost use Rattle.session_send.specs.Sound.{Sound, Own, PartsGive, CallGives, lent_to, seen_by, beginning, whole};
 
@@ -13,6 +11,7 @@ use memory::Span;
 use pack::Written;
 use send_reliable::{Ack, SendChannelReliable};
 use send_unreliable::{Queue, SendChannelUnreliable};
+use std::marker::Model;
 use words::{MessageId, Refusal, Sequence, SliceIndex};
 
 // How long the reliable sender waits before it sends again, at first.
@@ -35,6 +34,22 @@ pub struct Senders {
     su: SendChannelUnreliable,
     sr_lent: Lent,
     su_lent: Lent,
+}
+
+// A contract sees the fields, of which `Sound` is always true.
+impl Model for Senders {
+    ghost use Rattle.session_send.specs.State.{State};
+
+    ghost Value = { State };
+
+    ghost use Rattle.session_send.specs.Sound.{Sound};
+    ghost use Rattle.session_send.specs.Fields.{state_of, fields_of};
+
+    ghost view = { state_of };
+
+    ghost invariant = { λ a. Sound (state_of a) };
+
+    ghost inverse = { fields_of };
 }
 
 // The senders after a call, and the place after its answer.
@@ -77,6 +92,7 @@ struct Room<'a> {
 }
 
 // The senders at first.
+#[tactic(auto, unfolding(crate::specs::Sound::Sound))]
 pub fn start() -> Senders
     ensures { Sound result × (result.sr_lent ≡ whole) × (result.su_lent ≡ whole) }
 {
@@ -154,7 +170,6 @@ pub fn call(
     ranges: &mut [u64],
     page: &mut [u8],
 ) -> Told
-    requires { Sound s }
     ensures { CallGives reliable (seen_by s reliable c.k)
         small.old small.new lanes.old lanes.new
         out.old out.new table.old table.new result.senders }
@@ -245,7 +260,6 @@ fn answer(
     ranges: &mut [u64],
     page: &mut [u8],
 ) -> Told
-    requires { Sound s }
     ensures { Sound result.senders }
 {
     let mut stores = Stores { small, lanes };
@@ -267,10 +281,7 @@ impl Senders {
         bytes: &[u8],
         stores: &mut Stores,
         room: &mut Room,
-    ) -> Answer
-        requires { Sound self.old }
-        ensures { Sound self.new }
-    {
+    ) -> Answer {
         match k {
             0 => self.renew(reliable, numbers),
             1 => self.send(reliable, bytes, stores),
@@ -300,26 +311,9 @@ impl Senders {
         }
     }
 
-    // Another part for sound senders.
-    fn set_sr(&mut self, state: SendChannelReliable)
-        requires sound { Sound self.old }
-        requires valid { srv.Valid state }
-        ensures { Sound self.new }
-    {
-        self.sr = state;
-    }
-
-    fn set_su(&mut self, state: SendChannelUnreliable)
-        requires sound { Sound self.old }
-        requires valid { suv.Valid state }
-        ensures { Sound self.new }
-    {
-        self.su = state;
-    }
-
     // What a sender is lent after a call.
+    #[tactic(auto, unfolding(crate::specs::Sound::Sound))]
     fn lend(&mut self, reliable: bool, answer: Answer)
-        requires { Sound self.old }
         ensures { Sound self.new }
     {
         if reliable {
@@ -330,45 +324,45 @@ impl Senders {
     }
 
     // A new sender. A refused set-up leaves it as it was.
-    fn renew(&mut self, reliable: bool, numbers: &[u64]) -> Answer
-        requires { Sound self.old }
-        ensures { Sound self.new }
-    {
+    #[tactic(auto, unfolding(crate::specs::Sound::Sound))]
+    fn renew(&mut self, reliable: bool, numbers: &[u64]) -> Answer {
         let channel_id = (page::word(numbers, 0) % 256) as u8;
         let settings = answers::lent::settings(numbers, 1);
         if reliable {
             let made = SendChannelReliable::new(channel_id, settings, page::word(numbers, 5));
             made.answer?;
-            self.set_sr(made.state);
+            self.sr = made.state;
             return Ok(Said::Ready);
         }
         let made = SendChannelUnreliable::new(channel_id, settings);
         made.answer?;
-        self.set_su(made.state);
+        self.su = made.state;
         Ok(Said::Ready)
     }
 
-    fn send(&mut self, reliable: bool, message: &[u8], stores: &mut Stores) -> Answer
-        requires { Sound self.old }
-        ensures { Sound self.new }
-    {
+    #[tactic(auto, unfolding(crate::specs::Sound::Sound))]
+    fn send(&mut self, reliable: bool, message: &[u8], stores: &mut Stores) -> Answer {
         if reliable {
             let r = self.sr.send_message(message, stores.small, stores.lanes);
-            self.set_sr(r.state);
+            self.sr = r.state;
             return r.answer.map(|id| Said::Id(id.0));
         }
         let r = self.su.send_message(message, stores.small, stores.lanes);
-        self.set_su(r.state);
+        self.su = r.state;
         r.answer.map(|queue| match queue {
             Queue::Taken => Said::Taken,
             Queue::Dropped => Said::Dropped,
         })
     }
 
-    fn round(&mut self, reliable: bool, numbers: &[u64], stores: &Stores, room: &mut Room) -> Answer
-        requires { Sound self.old }
-        ensures { Sound self.new }
-    {
+    #[tactic(auto, unfolding(crate::specs::Sound::Sound))]
+    fn round(
+        &mut self,
+        reliable: bool,
+        numbers: &[u64],
+        stores: &Stores,
+        room: &mut Room,
+    ) -> Answer {
         let sequence = Sequence(page::word(numbers, 0));
         let second = page::word(numbers, 1);
         if reliable {
@@ -381,7 +375,7 @@ impl Senders {
                 room.out,
                 room.table,
             );
-            self.set_sr(r.state);
+            self.sr = r.state;
             return r.answer.map(|written| Said::Sent(written));
         }
         let r = self.su.get_packets_to_send(
@@ -392,25 +386,21 @@ impl Senders {
             room.out,
             room.table,
         );
-        self.set_su(r.state);
+        self.su = r.state;
         r.answer.map(|written| Said::Sent(written))
     }
 
-    fn ack(&mut self, id: MessageId) -> Answer
-        requires { Sound self.old }
-        ensures { Sound self.new }
-    {
+    #[tactic(auto, unfolding(crate::specs::Sound::Sound))]
+    fn ack(&mut self, id: MessageId) -> Answer {
         let r = self.sr.process_message_ack(id);
-        self.set_sr(r.state);
+        self.sr = r.state;
         r.answer.map(acked)
     }
 
-    fn ack_slice(&mut self, id: MessageId, index: SliceIndex) -> Answer
-        requires { Sound self.old }
-        ensures { Sound self.new }
-    {
+    #[tactic(auto, unfolding(crate::specs::Sound::Sound))]
+    fn ack_slice(&mut self, id: MessageId, index: SliceIndex) -> Answer {
         let r = self.sr.process_slice_message_ack(id, index);
-        self.set_sr(r.state);
+        self.sr = r.state;
         r.answer.map(acked)
     }
 
