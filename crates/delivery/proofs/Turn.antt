@@ -21,13 +21,12 @@ use Rattle.pack.specs.Rows.{smalls}
 use Rattle.pack.specs.Laws.{pieces, grouped, singles}
 use Rattle.pack.proofs.Theorems.{smalls-kept, pieces_kept}
 use Rattle.std.specs.Prelude.{None, Some}
-use Rattle.send_reliable.specs.declared.Sending.{Sending}
 use Rattle.send_reliable.specs.declared.Kind.{Kind}
 use Rattle.send_reliable.specs.declared.Kind.TheVariants.{Small, Sliced}
 use Rattle.send_reliable.specs.declared.Row.{Row}
 use Rattle.send_reliable.specs.declared.Piece.{Piece}
 use Rattle.send_reliable.specs.declared.SendChannelReliable.{SendChannelReliable}
-use Rattle.send_reliable.specs.Sender.{last_sent_of, kind_of, as_row, no_row, no_piece, live, SentBy, PlacedKind, Placed, Apart, Before, Valid}
+use Rattle.send_reliable.specs.Sender.{Sending, last_sent_of, kind_of, as_row, no_row, no_piece, live, SentBy, PlacedKind, Placed, Apart, Before, Valid}
 use Rattle.send_reliable.specs.declared.Visit.{Visit}
 use Rattle.send_reliable.specs.Select.{up_from, row_visits, visits_from, due, sent_at, Chosen, visit, visit_kind, select}
 use Rattle.send_reliable.specs.Round.{Given, chosen, packs, state_after}

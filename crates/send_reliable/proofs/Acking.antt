@@ -18,13 +18,12 @@ use Rattle.words.specs.Pieces.{pieces_of}
 use Rattle.words.specs.declared.Refusal.{Refusal}
 use Rattle.words.specs.declared.Refusal.TheVariants.{BadNumber, WrongKind, BadIndex}
 use Rattle.words.proofs.Tables.{pick-cases}
-use Rattle.send_reliable.specs.declared.Sending.{Sending}
 use Rattle.send_reliable.specs.declared.Kind.TheVariants.{Small, Sliced}
 use Rattle.send_reliable.specs.declared.Row.{Row}
 use Rattle.send_reliable.specs.declared.SendChannelReliable.{SendChannelReliable}
 use Rattle.send_reliable.specs.declared.Ack.{Ack}
 use Rattle.send_reliable.specs.declared.Ack.TheVariants as ack
-use Rattle.send_reliable.specs.Sender.{kind_of, no_row, live, piece_at, Valid}
+use Rattle.send_reliable.specs.Sender.{Sending, kind_of, no_row, live, piece_at, Valid}
 use Rattle.words.specs.Lists.{without as less}
 use Rattle.send_reliable.specs.Ack.{row_of, closed, without, ack_of, done, After, after, ack_row, ack_small, marked, with_ack, ack_piece, AckGives}
 use Rattle.send_reliable.specs.QueueSteps.{found_of, RowAt, Waits}

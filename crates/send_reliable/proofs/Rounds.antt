@@ -29,13 +29,12 @@ use Rattle.pack.specs.declared.Item as code
 use Rattle.pack.proofs.Pieces.{piece-most}
 use Rattle.pack.proofs.Tables.{items-put, items-taken}
 use Rattle.words.proofs.Unique.{numbered-above}
-use Rattle.send_reliable.specs.declared.Sending.{Sending}
 use Rattle.send_reliable.specs.declared.Kind.TheVariants.{Small, Sliced}
 use Rattle.send_reliable.specs.declared.Row.{Row}
 use Rattle.send_reliable.specs.declared.Piece.{Piece}
 use Rattle.send_reliable.specs.declared.SendChannelReliable.{SendChannelReliable}
 use Rattle.send_reliable.specs.declared.Selection.{Selection}
-use Rattle.send_reliable.specs.Sender.{last_sent_of, kind_of, as_row, ROWS, no_row, no_piece, live, Valid}
+use Rattle.send_reliable.specs.Sender.{Sending, last_sent_of, kind_of, as_row, ROWS, no_row, no_piece, live, Valid}
 use Rattle.send_reliable.specs.Select.{Visit, no_visit, visits_from, sent_at, Chosen, visit, unvisited, select, with_chosen}
 use Rattle.send_reliable.specs.RoundSteps.{goes, size_row, Within, Selects, Visitable, chosen_by, VisitGives}
 use Rattle.send_reliable.specs.Round.{Given, entry_refusal, packs, lent, refusal_of, state_after, RoundGives}

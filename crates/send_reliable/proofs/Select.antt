@@ -21,13 +21,12 @@ use Rattle.pack.specs.Encode.{Lent}
 use Rattle.pack.specs.Rows as rows
 use Rattle.pack.proofs.Pieces.{pieces-most, pieces-two, piece-most, piece-within}
 use Rattle.std.specs.Prelude.{Option, None, Some}
-use Rattle.send_reliable.specs.declared.Sending.{Sending}
 use Rattle.send_reliable.specs.declared.Kind.{Kind}
 use Rattle.send_reliable.specs.declared.Kind.TheVariants.{Small, Sliced}
 use Rattle.send_reliable.specs.declared.Row.{Row}
 use Rattle.send_reliable.specs.declared.Piece.{Piece}
 use Rattle.send_reliable.specs.declared.SendChannelReliable.{SendChannelReliable}
-use Rattle.send_reliable.specs.Sender.{last_sent_of, kind_of, as_row, no_row, no_piece, live, SentBy, acked_pieces, PlacedKind, Placed, Apart, Before, Valid}
+use Rattle.send_reliable.specs.Sender.{Sending, last_sent_of, kind_of, as_row, no_row, no_piece, live, SentBy, acked_pieces, PlacedKind, Placed, Apart, Before, Valid}
 use Rattle.send_reliable.specs.Select.{Visit, visits_from, due, sent_at, Chosen, with_small, with_piece, visit_kind, visit, unvisited, select, with_chosen}
 use Rattle.send_reliable.specs.RoundSteps.{goes, size_row, Within}
 use Rattle.words.proofs.Entries.{all_set, pairs-anew}

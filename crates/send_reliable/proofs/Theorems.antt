@@ -19,7 +19,6 @@ use Rattle.channel.specs.Settings.{lane_len_of}
 use Rattle.channel.specs.declared.Settings.{Settings}
 use Rattle.channel.proofs.Unique.{one-setup}
 use Rattle.channel.proofs.Good.{lane-within}
-use Rattle.send_reliable.specs.declared.Sending.{Sending}
 use Rattle.send_reliable.specs.declared.Kind.{Kind}
 use Rattle.send_reliable.specs.declared.Kind.TheVariants.{Small, Sliced}
 use Rattle.send_reliable.specs.declared.Row.{Row}
@@ -30,7 +29,7 @@ use Rattle.send_reliable.specs.declared.Ack.TheVariants as ack
 use Rattle.std.specs.Prelude.{Some, Result, Ok, Err}
 use Rattle.words.specs.declared.MessageId.{MessageId}
 use Rattle.words.specs.declared.Refusal.{Refusal}
-use Rattle.send_reliable.specs.Sender.{unsent, kind_of, as_row, no_row, live, piece_at, Placed, Before, Valid, Made, MadeGives}
+use Rattle.send_reliable.specs.Sender.{Sending, unsent, kind_of, as_row, no_row, live, piece_at, Placed, Before, Valid, Made, MadeGives}
 use Rattle.send_reliable.specs.Queue as q
 use Rattle.send_reliable.specs.Ack as a
 use Rattle.send_reliable.specs.QueueSteps.{RowFits, found_of, RowAt}

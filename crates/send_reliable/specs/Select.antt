@@ -7,14 +7,13 @@ use Rattle.words.specs.Lists.{reached}
 use Rattle.channel.specs.Settings.{lane_len_of}
 use Rattle.channel.specs.declared.Settings.{Settings}
 use Rattle.pack.specs.Pack.{Item}
-use Rattle.send_reliable.specs.declared.Sending.{Sending}
 use Rattle.send_reliable.specs.declared.Kind.{Kind}
 use Rattle.send_reliable.specs.declared.Kind.TheVariants.{Small, Sliced}
 use Rattle.send_reliable.specs.declared.Row.{Row}
 use Rattle.send_reliable.specs.declared.Piece.{Piece}
 use Rattle.send_reliable.specs.declared.SendChannelReliable.{SendChannelReliable}
 pub use Rattle.send_reliable.specs.declared.Visit.{Visit}
-use Rattle.send_reliable.specs.Sender.{last_sent_of, kind_of, as_row, no_row, no_piece, live}
+use Rattle.send_reliable.specs.Sender.{Sending, last_sent_of, kind_of, as_row, no_row, no_piece, live}
 
 -- ---- what a round looks at, in its order: ids rise; a sliced message starts at the piece after its last sent one
 
@@ -48,7 +47,7 @@ due resend now None = true
 due resend now (Some t) = leb resend (now - t)
 
 abbrev pub sent_at : ℕ → Sending
-sent_at now = record { sent = 1; time = now }
+sent_at now = Some now
 
 -- what is left of the allowance, what was chosen so far, and the tables of messages and pieces with their sendings
 pub record Chosen : Type 0 where

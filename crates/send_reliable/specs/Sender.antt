@@ -9,7 +9,6 @@ use Rattle.words.specs.declared.MessageId.{MessageId}
 use Rattle.words.specs.declared.Refusal.{Refusal}
 use Rattle.channel.specs.Settings.{settings_refusal, setup_number, Good, least_settings}
 use Rattle.channel.specs.declared.Settings.{Settings}
-use Rattle.send_reliable.specs.declared.Sending.{Sending}
 use Rattle.send_reliable.specs.declared.Kind.{Kind}
 use Rattle.send_reliable.specs.declared.Kind.TheVariants.{Small, Sliced}
 use Rattle.send_reliable.specs.declared.Row.{Row}
@@ -25,11 +24,14 @@ ROWS = SLOTS + LANES
 -- ---- what a table's plain fields say, and a row by its kind
 
 -- when something was last sent, if ever
+abbrev pub Sending : Type 0
+Sending = Option ℕ
+
 abbrev pub last_sent_of : Sending → Option ℕ
-last_sent_of t = pick (eqb t.sent 0) None (Some t.time)
+last_sent_of t = t
 
 abbrev pub unsent : Sending
-unsent = record { sent = 0; time = 0 }
+unsent = None
 
 -- where a waiting message lies
 abbrev pub kind_of : Row → Kind
