@@ -11,6 +11,7 @@ use answers::packets;
 use arguments::Read;
 use memory::LANE;
 use slice_constructor::SliceConstructor;
+use std::marker::Model;
 use words::{MessageId, Refusal, SliceIndex};
 
 // The reassembly, and how many bytes of its lane are lent.
@@ -18,6 +19,22 @@ use words::{MessageId, Refusal, SliceIndex};
 pub struct End {
     pub state: SliceConstructor,
     pub lane: usize,
+}
+
+// A contract sees its fields. That the reassembly is valid is always true of them.
+impl Model for End {
+    ghost use Rattle.session_sc.specs.State.{State};
+
+    ghost Value = { State };
+
+    ghost use Rattle.slice_constructor.specs.Collect.{Valid};
+    ghost use Rattle.session_sc.specs.Fields.{state_of, fields_of};
+
+    ghost view = { state_of };
+
+    ghost invariant = { λ a. Valid a.state };
+
+    ghost inverse = { fields_of };
 }
 
 // The reassembly after a call, and the place after the answer.
@@ -61,7 +78,6 @@ pub fn call(
     page: &mut [u8],
     at: usize,
 ) -> Told
-    requires { Valid e.state }
     ensures { Valid result.end.state × (result.end.lane ≡ lent_after_of k numbers.now e.lane) }
 {
     let t = answer(e, k, numbers, bytes, lane, page, at);
@@ -80,7 +96,6 @@ fn answer(
     page: &mut [u8],
     at: usize,
 ) -> Told
-    requires { Valid e.state }
     ensures { Valid result.end.state × (result.end.lane ≡ lent_after_of k numbers.now e.lane) }
 {
     match k {
@@ -92,7 +107,6 @@ fn answer(
 }
 
 fn new(e: End, numbers: &[u64], page: &mut [u8], at: usize) -> Told
-    requires { Valid e.state }
     ensures { Valid result.end.state × (result.end.lane ≡ e.lane) }
 {
     let begun = SliceConstructor::new(MessageId(page::word(numbers, 0)), page::word(numbers, 1));
@@ -120,7 +134,6 @@ fn with(e: End, state: SliceConstructor, at: usize) -> Told
 }
 
 fn lend(e: End, numbers: &[u64], page: &mut [u8], at: usize) -> Told
-    requires { Valid e.state }
     ensures { Valid result.end.state × (result.end.lane ≡ get_or numbers.now 0 0) }
 {
     let a = page::line(page, at, b"lent lane #", numbers);
@@ -134,7 +147,6 @@ fn lend(e: End, numbers: &[u64], page: &mut [u8], at: usize) -> Told
 }
 
 fn digest(e: End, lane: &[u8], page: &mut [u8], at: usize) -> Told
-    requires { Valid e.state }
     ensures { Valid result.end.state × (result.end.lane ≡ e.lane) }
 {
     let a = page::line(page, at, b"lane #", &[say::digest_bytes(lane)]);
@@ -142,7 +154,6 @@ fn digest(e: End, lane: &[u8], page: &mut [u8], at: usize) -> Told
 }
 
 fn slice(e: End, index: u64, bytes: &[u8], lane: &mut [u8], page: &mut [u8], at: usize) -> Told
-    requires { Valid e.state }
     ensures { Valid result.end.state × (result.end.lane ≡ e.lane) }
 {
     let n = page::part(e.lane, lane);
