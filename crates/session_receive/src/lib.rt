@@ -442,10 +442,7 @@ fn lend(r: &mut Receivers, reliable: bool, numbers: &[u64]) -> Answer
 }
 
 // The bytes of the message that waits.
-#[tactic(auto, unfolding(crate::specs::Sound::Sound))]
-fn waiting<'a>(r: Receivers, reliable: bool, small: &'a [u8], lanes: &'a [u8]) -> &'a [u8]
-    requires { Sound r }
-{
+fn waiting<'a>(r: Receivers, reliable: bool, small: &'a [u8], lanes: &'a [u8]) -> &'a [u8] {
     if reliable {
         return r.reliable.message(small, lanes);
     }
@@ -453,16 +450,11 @@ fn waiting<'a>(r: Receivers, reliable: bool, small: &'a [u8], lanes: &'a [u8]) -
 }
 
 // Says the memory in use.
-fn used(r: &Receivers, reliable: bool, page: &mut [u8], at: usize) -> usize
-    requires { Sound r.now }
-{
+fn used(r: &Receivers, reliable: bool, page: &mut [u8], at: usize) -> usize {
     page::line(page, at, b"usage #\n", &[usage(r, reliable) as u64])
 }
 
-#[tactic(auto, unfolding(crate::specs::Sound::Sound))]
-fn usage(r: &Receivers, reliable: bool) -> usize
-    requires { Sound r.now }
-{
+fn usage(r: &Receivers, reliable: bool) -> usize {
     if reliable {
         return r.reliable.memory_usage_bytes();
     }
