@@ -13,6 +13,7 @@ use packet::Packet;
 use packet_slice::Slice;
 use receive_reliable::ReceiveChannelReliable;
 use receive_unreliable::ReceiveChannelUnreliable;
+use std::marker::Model;
 use words::{MessageId, Refusal, SliceIndex};
 
 // Both receivers, and how much of the stores of each is lent.
@@ -22,6 +23,22 @@ pub struct Receivers {
     pub unreliable: ReceiveChannelUnreliable,
     pub reliable_lent: Stores,
     pub unreliable_lent: Stores,
+}
+
+// A contract sees their fields, of which `Sound` is always true.
+impl Model for Receivers {
+    ghost use Rattle.session_receive.specs.State.{State};
+
+    ghost Value = { State };
+
+    ghost use Rattle.session_receive.specs.Sound.{Sound};
+    ghost use Rattle.session_receive.specs.Fields.{state_of, fields_of};
+
+    ghost view = { state_of };
+
+    ghost invariant = { λ a. Sound (state_of a) };
+
+    ghost inverse = { fields_of };
 }
 
 // The receivers after a call, and the place after the answer.
@@ -185,7 +202,6 @@ pub fn call(
     lanes: &mut [u8],
     page: &mut [u8],
 ) -> Told
-    requires { Sound r }
     ensures { Sound result.receivers }
 {
     let t = Turn {
@@ -198,18 +214,26 @@ pub fn call(
         let at = made(
             &mut r, t, numbers, bytes, messages, ranges, small, lanes, page,
         );
-        return Told { receivers: r, at };
+        return after(&r, at);
     }
     let i = page::size(numbers, 0);
     if packets <= i {
         let at = page::text(page, c.at, b"bad line: no such packet\n");
-        return Told { receivers: r, at };
+        return after(&r, at);
     }
     let t = Turn { k: PACKET, ..t };
     let s = kept(reliable, i, out, table);
     let left = page::words_from(numbers, 1);
     let at = made(&mut r, t, left, s, messages, ranges, small, lanes, page);
-    Told { receivers: r, at }
+    after(&r, at)
+}
+
+// The receivers are looked into here, so that the contract says what is always true of them.
+fn after(r: &Receivers, at: usize) -> Told
+    ensures { Sound result.receivers }
+{
+    let _ = &r.reliable_lent;
+    Told { receivers: *r, at }
 }
 
 // The i-th packet of the last round of the sender of the same kind.
@@ -247,10 +271,7 @@ fn made(
     small: &mut [u8],
     lanes: &mut [u8],
     page: &mut [u8],
-) -> usize
-    requires { Sound r.old }
-    ensures { Sound r.new }
-{
+) -> usize {
     let n = seen(r, t);
     let s = memory::bytes_span(
         small,
@@ -280,10 +301,7 @@ fn plain(
     small: &mut [u8],
     lanes: &mut [u8],
     page: &mut [u8],
-) -> usize
-    requires { Sound r.old }
-    ensures { Sound r.new }
-{
+) -> usize {
     let before = *r;
     let answer = called(r, t, numbers, bytes, small, lanes);
     let s = waiting(before, t.reliable, small, lanes);
@@ -299,10 +317,7 @@ fn called(
     bytes: &[u8],
     small: &mut [u8],
     lanes: &mut [u8],
-) -> Result<Answer, Refusal>
-    requires { Sound r.old }
-    ensures { Sound r.new }
-{
+) -> Result<Answer, Refusal> {
     match t.k {
         NEW => new(r, t.reliable, numbers),
         LEND => Ok(lend(r, t.reliable, numbers)),
@@ -327,10 +342,7 @@ fn ordered(
     bytes: &[u8],
     small: &mut [u8],
     lanes: &mut [u8],
-) -> Result<Answer, Refusal>
-    requires { Sound r.old }
-    ensures { Sound r.new }
-{
+) -> Result<Answer, Refusal> {
     let id = MessageId(page::word(numbers, 0));
     match k {
         MESSAGE => {
@@ -365,10 +377,7 @@ fn unordered(
     bytes: &[u8],
     small: &mut [u8],
     lanes: &mut [u8],
-) -> Result<Answer, Refusal>
-    requires { Sound r.old }
-    ensures { Sound r.new }
-{
+) -> Result<Answer, Refusal> {
     match k {
         MESSAGE => {
             let a = r.unreliable.process_message(bytes, small, lanes);
@@ -397,10 +406,7 @@ fn unordered(
 
 // A refused set-up leaves the receiver as it was.
 #[tactic(auto, unfolding(crate::specs::Sound::Sound))]
-fn new(r: &mut Receivers, reliable: bool, numbers: &[u64]) -> Result<Answer, Refusal>
-    requires { Sound r.old }
-    ensures { Sound r.new }
-{
+fn new(r: &mut Receivers, reliable: bool, numbers: &[u64]) -> Result<Answer, Refusal> {
     let settings = lent::settings(numbers, 0);
     if reliable {
         let made = ReceiveChannelReliable::new(settings);
@@ -415,20 +421,14 @@ fn new(r: &mut Receivers, reliable: bool, numbers: &[u64]) -> Result<Answer, Ref
 }
 
 #[tactic(auto, unfolding(crate::specs::Sound::Sound))]
-fn discard(r: &mut Receivers, current_time: u64) -> Result<Answer, Refusal>
-    requires { Sound r.old }
-    ensures { Sound r.new }
-{
+fn discard(r: &mut Receivers, current_time: u64) -> Result<Answer, Refusal> {
     let d = r.unreliable.discard_incomplete_old_slices(current_time);
     r.unreliable = d.state;
     Ok(Answer::Discarded(d.answer?))
 }
 
 #[tactic(auto, unfolding(crate::specs::Sound::Sound))]
-fn lend(r: &mut Receivers, reliable: bool, numbers: &[u64]) -> Answer
-    requires { Sound r.old }
-    ensures { Sound r.new }
-{
+fn lend(r: &mut Receivers, reliable: bool, numbers: &[u64]) -> Answer {
     let lent = Stores {
         small: page::size(numbers, 0).min(memory::SMALL),
         lanes: page::size(numbers, 1).min(memory::LANES),
@@ -532,10 +532,7 @@ fn packet(
     small: &mut [u8],
     lanes: &mut [u8],
     page: &mut [u8],
-) -> usize
-    requires { Sound r.old }
-    ensures { Sound r.new }
-{
+) -> usize {
     let d = packets::read(bytes, messages, ranges);
     t.at = packets::decoded(page, t.at, d, messages, ranges);
     match d {
@@ -562,10 +559,7 @@ fn hand_over(
     small: &mut [u8],
     lanes: &mut [u8],
     page: &mut [u8],
-) -> usize
-    requires { Sound r.old }
-    ensures { Sound r.new }
-{
+) -> usize {
     match c {
         Contents::Messages(n) => handed(r, t, n, bytes, messages, small, lanes, page),
         Contents::Piece(s) => {
@@ -605,10 +599,7 @@ fn handed(
     small: &mut [u8],
     lanes: &mut [u8],
     page: &mut [u8],
-) -> usize
-    requires { Sound r.old }
-    ensures { Sound r.new }
-{
+) -> usize {
     let mut at = t.at;
     for i in 0..count {
         let id = packets::id_at(messages, i);
@@ -639,10 +630,7 @@ fn further(
     small: &mut [u8],
     lanes: &mut [u8],
     page: &mut [u8],
-) -> usize
-    requires { Sound r.old }
-    ensures { Sound r.new }
-{
+) -> usize {
     t.k = k;
     t.at = packets::numbered(page, t.at, t.n, i);
     plain(r, t, numbers, bytes, small, lanes, page)
