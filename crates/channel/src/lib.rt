@@ -25,7 +25,8 @@ pub struct Opened {
     pub charge: usize,
 }
 
-// The lane that a piece goes to; whether that one is new.
+// The lane that a piece goes to; whether that one is new. No enum: whichever it is, a receiver goes on
+// with the lane, and `SliceConstructor::start` takes the flag.
 #[derive(Clone, Copy, Debug, PartialEq, Eq)]
 pub struct SlicePlace {
     pub lane: usize,
@@ -42,7 +43,8 @@ pub struct Settings {
     pub max_memory_usage_bytes: usize,
 }
 
-// Whether a channel end was set up, and the settings that it has.
+// Whether a channel end was set up, and the settings that it has. Both, since `SettledGives` promises
+// the least settings where the ones that were asked for are refused.
 #[derive(Clone, Copy, Debug, PartialEq, Eq)]
 pub struct Settled {
     pub answer: Result<(), Refusal>,

@@ -17,7 +17,7 @@ ghost use Rattle.pack.specs.Round.{ITEMS, Gives};
 ghost use Rattle.pack.specs.Steps.{open_row, piece_row, closed, pieced, MOST, PackedTo, lent_of, items_bytes};
 
 use packet_slice::Slice;
-use packet_small::Small;
+use packet_small::{HEAD, Small};
 use words::{LANES, LIMIT, MessageId, PIECES, Refusal, SLICE_SIZE, SLOTS, Sequence, SliceIndex};
 
 // Most items of a round: every small message and every piece that a channel end can hold.
@@ -25,9 +25,6 @@ pub const ITEMS: usize = SLOTS + LANES * PIECES;
 
 // Words of the lent table for each packet: start and length.
 const ENTRY: usize = 2;
-
-// Bytes before the messages beside the sequence: type, channel and two-byte count.
-const HEAD: usize = 4;
 
 // What a round chose. A small message has num 0 and lies in the small store; any other item is the
 // piece `index` of `num` and lies in the lanes.

@@ -2,7 +2,8 @@
 // Packets of small messages, read and written: type 0, SmallReliable, and type 1, SmallUnreliable,
 // which is the same without the ids. `ids` tells the two apart.
 //
-// Messages are named by a lent table, three words for each: id, place, length. The reader walks the
+// Messages are named by a lent table, three words for each: id, place, length. Words and no records,
+// since `packet::from_bytes` and `packet::to_bytes` are lent them so. The reader walks the
 // input twice, and each message takes at least a byte of it, so a packet that claims more messages
 // than it has costs no more than its own length. The writer judges the whole table before it writes.
 ghost use Rattle.std.specs.Prelude.{◌≡◌, true, map, ◌+◌, ◌*◌, ◌≤◌, ◌<◌, length, leb};
@@ -20,7 +21,7 @@ use words::{LIMIT, MAX_MESSAGES, MessageId, Refusal, Sequence};
 pub const RECORD: usize = 3;
 
 // Bytes before the messages beside the sequence: type, channel and two-byte count.
-const HEAD: usize = 4;
+pub const HEAD: usize = 4;
 
 // A message in the input or in a store: its id, where its bytes start, and how many they are.
 #[derive(Clone, Copy)]

@@ -156,6 +156,7 @@ pub fn bytes(page: &mut [u8], at: usize, s: &[u8]) -> usize
     let mut a = at;
     let mut i = 0;
     let mut before = Before::Nothing;
+    // a part is one byte or many, so no `for` steps as this does
     while i < s.len() {
         let p = say::next_part(s, i);
         a = spell(page, a, before, p);

@@ -14,7 +14,8 @@ use words::{After, LIMIT, Refusal, Sequence};
 // What stands in the table behind the ranges.
 const BLANK: Range = Range { start: 0, end: 0 };
 
-// The ranges, the lowest first, how many they are, and whether one was ever dropped.
+// The ranges, the lowest first, how many they are (a count beside a table, since all memory is fixed), and
+// whether one was ever dropped.
 #[derive(Clone, Copy)]
 pub struct PendingAcks {
     count: usize,

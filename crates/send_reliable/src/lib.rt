@@ -16,15 +16,12 @@ ghost use Rattle.send_reliable.specs.Select.{no_visit, up_from, row_visits, visi
 ghost use Rattle.send_reliable.specs.Round.{entry_number, RoundGives};
 ghost use Rattle.send_reliable.specs.RoundSteps.{Ranged, goes, Selects, Within, size_row, VisitGives};
 
-use channel::Settings;
+use channel::{ROWS, Settings};
 use pack::{ITEMS, Item, Lent, Written};
 use std::marker::Model;
 use words::{
     After, LANES, LIMIT, MessageId, PIECES, Refusal, SLICE_SIZE, SLOTS, Sequence, SliceIndex,
 };
-
-// Most messages that wait.
-const ROWS: usize = SLOTS + LANES;
 
 // Pieces of all lanes; piece i of lane l is at l × PIECES + i.
 const ALL_PIECES: usize = LANES * PIECES;
@@ -60,7 +57,8 @@ pub struct Piece {
     sending: Sending,
 }
 
-// Rows past `count` are blank; the pieces of a lane are blank when a message takes it.
+// Rows past `count` are blank (a count beside a table, since all memory is fixed); the pieces of a lane
+// are blank when a message takes it.
 #[derive(Clone, Copy)]
 pub struct SendChannelReliable {
     channel_id: u8,

@@ -15,16 +15,14 @@ ghost use Rattle.send_unreliable.specs.Sender.{ROWS, empty_of, available, can_se
 ghost use Rattle.send_unreliable.specs.Round.{pieces_from, go, starting, RoundGives};
 ghost use Rattle.send_unreliable.specs.Steps.{place_of, chosen_at, Room};
 
-use channel::Settings;
+use channel::{ROWS, Settings};
 use pack::{ITEMS, Item, Lent, Written};
 use std::marker::Model;
-use words::{After, LANES, LIMIT, MessageId, Refusal, SLICE_SIZE, SLOTS, Sequence, SliceIndex};
-
-// Most messages that wait.
-const ROWS: usize = SLOTS + LANES;
+use words::{After, LIMIT, MessageId, Refusal, SLICE_SIZE, Sequence, SliceIndex};
 
 // The k-th small message that waits lies in cell k and the l-th sliced one in lane l: a round frees all
-// at once, so these are always the lowest free ones. Entries past `count` are blank.
+// at once, so these are always the lowest free ones. Entries past `count` are blank: a count beside a
+// table, since all memory is fixed.
 #[derive(Clone, Copy)]
 pub struct SendChannelUnreliable {
     channel_id: u8,

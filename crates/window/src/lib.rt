@@ -8,12 +8,9 @@ ghost use Rattle.window.specs.Rule.{load_of};
 ghost use Rattle.window.specs.Window.{ROWS, table, new_of, kept, MadeGives, room_number, queue_refusal, QueuedGives};
 ghost use Rattle.window.specs.Steps.{one_of, Bounded, plus, Holds, minus, step_of, judged, spot_of};
 
-use channel::Settings;
+use channel::{ROWS, Settings};
 use std::marker::Model;
-use words::{After, LANES, LIMIT, MessageId, Refusal, SLICE_SIZE, SLOTS};
-
-// Most messages that a receiver has room for.
-const ROWS: usize = SLOTS + LANES;
+use words::{After, LIMIT, MessageId, Refusal, SLICE_SIZE};
 
 // What messages may take of a receiver: slots, lanes and memory.
 #[derive(Clone, Copy, Debug, PartialEq, Eq)]
@@ -23,8 +20,8 @@ pub struct Load {
     charge: usize,
 }
 
-// The lengths of the messages from `first` on: `count` of them at the front of the table, and 0 past them. `load` is
-// what they may take.
+// The lengths of the messages from `first` on: `count` of them at the front of the table, and 0 past them (a count beside
+// a table, since all memory is fixed). `load` is what they may take.
 #[derive(Clone, Copy)]
 pub struct Window {
     settings: Settings,
