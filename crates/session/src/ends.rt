@@ -4,6 +4,7 @@ ghost use Rattle.session.specs.Sound.{Sound};
 use answers::Call;
 use session_receive::Receivers;
 use session_send::Senders;
+use std::marker::Model;
 
 // The end that a line names: of two senders or receivers, whether it is the reliable one.
 #[derive(Clone, Copy)]
@@ -20,6 +21,22 @@ pub struct Ends {
     pub sc: session_sc::End,
     pub senders: Senders,
     pub receivers: Receivers,
+}
+
+// A contract sees them, of which `Sound` is always true.
+impl Model for Ends {
+    ghost use Rattle.session.specs.State.{State};
+
+    ghost Value = { State };
+
+    ghost use Rattle.session.specs.Sound.{Sound};
+    ghost use Rattle.session.specs.Fields.{state_of, fields_of};
+
+    ghost view = { state_of };
+
+    ghost invariant = { λ a. Sound (state_of a) };
+
+    ghost inverse = { fields_of };
 }
 
 // What is lent to the ends: the stores of small messages and of pieces, the packets of the rounds and
@@ -56,10 +73,7 @@ pub fn answer(
     numbers: &[u64],
     bytes: &[u8],
     m: &mut Memory,
-) -> usize
-    requires { Sound ends.old }
-    ensures { Sound ends.new }
-{
+) -> usize {
     match which {
         Which::Wire => wire(ends, c, numbers, bytes, m),
         Which::Sc => collect(ends, c, numbers, bytes, m),
@@ -70,10 +84,7 @@ pub fn answer(
 
 // Calls the codec.
 #[tactic(auto, unfolding(crate::specs::Sound::Sound))]
-fn wire(ends: &mut Ends, c: Call, numbers: &[u64], bytes: &[u8], m: &mut Memory) -> usize
-    requires { Sound ends.old }
-    ensures { Sound ends.new }
-{
+fn wire(ends: &mut Ends, c: Call, numbers: &[u64], bytes: &[u8], m: &mut Memory) -> usize {
     let out: &mut [u8] = &mut m.out;
     let own = memory::span_of(out, memory::WIRE_OUT, memory::WIRE);
     let t = session_wire::call(
@@ -93,10 +104,7 @@ fn wire(ends: &mut Ends, c: Call, numbers: &[u64], bytes: &[u8], m: &mut Memory)
 
 // Calls the slice constructor.
 #[tactic(auto, unfolding(crate::specs::Sound::Sound))]
-fn collect(ends: &mut Ends, c: Call, numbers: &[u64], bytes: &[u8], m: &mut Memory) -> usize
-    requires { Sound ends.old }
-    ensures { Sound ends.new }
-{
+fn collect(ends: &mut Ends, c: Call, numbers: &[u64], bytes: &[u8], m: &mut Memory) -> usize {
     let lanes: &mut [u8] = &mut m.lanes;
     let own = memory::span_of(lanes, memory::SC_LANE, memory::LANE);
     let t = session_sc::call(
@@ -121,10 +129,7 @@ fn send(
     numbers: &[u64],
     bytes: &[u8],
     m: &mut Memory,
-) -> usize
-    requires { Sound ends.old }
-    ensures { Sound ends.new }
-{
+) -> usize {
     let t = session_send::call(
         ends.senders,
         reliable,
@@ -152,10 +157,7 @@ fn receive(
     numbers: &[u64],
     bytes: &[u8],
     m: &mut Memory,
-) -> usize
-    requires { Sound ends.old }
-    ensures { Sound ends.new }
-{
+) -> usize {
     let messages: &mut [u64] = &mut m.messages;
     let ranges: &mut [u64] = &mut m.ranges;
     let p = page::part(ends.wire.messages, messages);

@@ -1,7 +1,6 @@
 #![tactic(auto)]
 // The script program: a script of packets and calls is read from standard input, and each answer is
 // printed. docs/SCRIPT.md has the language.
-ghost use Rattle.session.specs.Sound.{Sound};
 
 use answers::Call;
 use arguments::LineFault;
@@ -75,9 +74,7 @@ fn run(text: &mut Text, memory: &mut Memory) {
     }
 }
 
-fn start() -> Session
-    ensures { Sound result.ends }
-{
+fn start() -> Session {
     Session {
         ends: ends::start(),
         script: Script {
@@ -90,20 +87,14 @@ fn start() -> Session
 }
 
 // Answers the next line.
-fn turn(s: &mut Session, text: &mut Text, memory: &mut Memory)
-    requires { Sound s.old.ends }
-    ensures { Sound s.new.ends }
-{
+fn turn(s: &mut Session, text: &mut Text, memory: &mut Memory) {
     if let Some(request) = next(&mut s.script, text, &mut memory.page) {
         answer(s, request, text, memory);
     }
 }
 
 // Makes the call that a line asks for.
-fn answer(s: &mut Session, request: Request, text: &Text, memory: &mut Memory)
-    requires { Sound s.old.ends }
-    ensures { Sound s.new.ends }
-{
+fn answer(s: &mut Session, request: Request, text: &Text, memory: &mut Memory) {
     let c = page::part(request.call.numbers, &text.numbers);
     let b = page::part(request.call.bytes, &text.bytes);
     let call = Call {
