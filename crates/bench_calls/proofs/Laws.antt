@@ -9,34 +9,28 @@ use Rattle.bench_calls.specs.Calls.{Bytes, Steps, StepsAt, StepsAtBoth}
 
 -- ---- calls of a closure, as calls by Step of what `of` makes of each state
 
-module _ {F S : Type 0} (Valid : S → Type 0) {g : Shared F (MutBor S × (ℕ × Unit {0})) (Unit {0} × (MutBor S × Unit {0}))} {f : F} {Step : ℕ → S → S → Type 0}
-    (each : (k : ℕ) (s t : MutBor S) → Valid s.now → g.post f (s, (k, tt)) (tt, (t, tt)) → Step k s.now t.now × Valid t.now) where
-  pub carried : {n : ℕ} {s t : S} → Valid s → Times (Steps g f) n s t → Times Step n s t × Valid t
-  carried v none = (none, v)
-  carried v (more ts t) =
-      let before = carried v ts in
-      let now = each _ t.shown t.left (rw t.shows before.1) t.met in
-      (more before.0 (rw (← t.shows, ← t.leaves) now.0), subst Valid t.leaves now.1)
+module _ {F S : Type 0} {g : Shared F (MutBor S × (ℕ × Unit {0})) (Unit {0} × (MutBor S × Unit {0}))} {f : F} {Step : ℕ → S → S → Type 0}
+    (each : (k : ℕ) (s t : MutBor S) → g.post f (s, (k, tt)) (tt, (t, tt)) → Step k s.now t.now) where
+  pub carried : {n : ℕ} {s t : S} → Times (Steps g f) n s t → Times Step n s t
+  carried none = none
+  carried (more ts t) = more (carried ts) (rw (← t.shows, ← t.leaves) (each _ t.shown t.left t.met))
 
-module _ {F S T : Type 0} (of : S → List ℕ → T) (Valid : S → Type 0) {g : Shared F (MutBor S × (ℕ × (Bytes × Unit {0}))) (Unit {0} × (MutBor S × (Bytes × Unit {0})))} {f : F} {Step : ℕ → T → T → Type 0}
-    (each : (k : ℕ) (s t : MutBor S) (m m' : Bytes) → Valid s.now → g.post f (s, (k, (m, tt))) (tt, (t, (m', tt))) → Step k (of s.now m.now) (of t.now m'.now) × Valid t.now) where
-  pub carried-at : {n : ℕ} {a b : S × List ℕ} → Valid a.0 → Times (StepsAt g f) n a b → Times Step n (of a.0 a.1) (of b.0 b.1) × Valid b.0
-  carried-at v none = (none, v)
-  carried-at v (more {t = c} {u = b} ts t) =
-      let before = carried-at v ts in
-      let now = each _ t.shown t.left t.store t.store' (rw t.shows.0 before.1) t.met in
-      (more before.0 (rw (← t.shows.0, ← t.shows.1, ← t.leaves.0, ← t.leaves.1) now.0), subst Valid t.leaves.0 now.1)
+module _ {F S T : Type 0} (of : S → List ℕ → T) {g : Shared F (MutBor S × (ℕ × (Bytes × Unit {0}))) (Unit {0} × (MutBor S × (Bytes × Unit {0})))} {f : F} {Step : ℕ → T → T → Type 0}
+    (each : (k : ℕ) (s t : MutBor S) (m m' : Bytes) → g.post f (s, (k, (m, tt))) (tt, (t, (m', tt))) → Step k (of s.now m.now) (of t.now m'.now)) where
+  pub carried-at : {n : ℕ} {a b : S × List ℕ} → Times (StepsAt g f) n a b → Times Step n (of a.0 a.1) (of b.0 b.1)
+  carried-at none = none
+  carried-at (more ts t) =
+      more (carried-at ts) (rw (← t.shows.0, ← t.shows.1, ← t.leaves.0, ← t.leaves.1) (each _ t.shown t.left t.store t.store' t.met))
 
-module _ {F S : Type 0} (Valid : S → Type 0) {g : Shared F (MutBor S × (ℕ × (Bytes × (Bytes × Unit {0})))) (Unit {0} × (MutBor S × (Bytes × (Bytes × Unit {0}))))} {f : F} {Step : ℕ → Held S → Held S → Type 0}
-    (each : (k : ℕ) (s t : MutBor S) (m l m' l' : Bytes) → Valid s.now → g.post f (s, (k, (m, (l, tt)))) (tt, (t, (m', (l', tt)))) → Step k (held s.now m.now l.now) (held t.now m'.now l'.now) × Valid t.now) where
-  pub carried-at-both : {n : ℕ} {a b : Held S} → Valid a.state → Times (StepsAtBoth g f) n a b → Times Step n a b × Valid b.state
-  carried-at-both v none = (none, v)
-  carried-at-both v (more {n = k} {t = c} {u = b} ts t) =
-      let before = carried-at-both v ts in
-      let now = each k t.shown t.left t.small t.lanes t.small' t.lanes' (rw t.shows.0 before.1) t.met in
+module _ {F S : Type 0} {g : Shared F (MutBor S × (ℕ × (Bytes × (Bytes × Unit {0})))) (Unit {0} × (MutBor S × (Bytes × (Bytes × Unit {0}))))} {f : F} {Step : ℕ → Held S → Held S → Type 0}
+    (each : (k : ℕ) (s t : MutBor S) (m l m' l' : Bytes) → g.post f (s, (k, (m, (l, tt)))) (tt, (t, (m', (l', tt)))) → Step k (held s.now m.now l.now) (held t.now m'.now l'.now)) where
+  pub carried-at-both : {n : ℕ} {a b : Held S} → Times (StepsAtBoth g f) n a b → Times Step n a b
+  carried-at-both none = none
+  carried-at-both (more {n = k} {t = c} {u = b} ts t) =
       let from : held t.shown.now t.small.now t.lanes.now ≡ c = λ i. record { state = t.shows.0 i; small = t.shows.1 i; lanes = t.shows.2 i } in
       let to : held t.left.now t.small'.now t.lanes'.now ≡ b = λ i. record { state = t.leaves.0 i; small = t.leaves.1 i; lanes = t.leaves.2 i } in
-      (more before.0 (subst (λ x. Step k x b) from (subst (λ x. Step k (held t.shown.now t.small.now t.lanes.now) x) to now.0)), subst Valid t.leaves.0 now.1)
+      more (carried-at-both ts)
+      (subst (λ x. Step k x b) from (subst (λ x. Step k (held t.shown.now t.small.now t.lanes.now) x) to (each k t.shown t.left t.small t.lanes t.small' t.lanes' t.met)))
 
 -- ---- one call
 
@@ -44,7 +38,6 @@ module _ {F S : Type 0} (Valid : S → Type 0) {g : Shared F (MutBor S × (ℕ �
 pub left : {R S : Type 0} {Promise : R → Type 0} {state_of : R → S} (r : R) → Promise r → Left Promise state_of (state_of r)
 left r p = record { answer = r; gives = p; state = refl }
 
--- what a call gives and leaves, where its state is known by an equation and is Valid by what the call promises
-pub kept : {R S : Type 0} {Promise : R → Type 0} (Valid : S → Type 0) {state_of : R → S} {s : S}
-    → ((r : R) → Promise r → Valid (state_of r)) → (r : R) × Promise r × (s ≡ state_of r) → Left Promise state_of s × Valid s
-kept Valid valid (r, p, e) = (record { answer = r; gives = p; state = e }, rw e (valid r p))
+-- the same, where the state is known by an equation
+pub left-by : {R S : Type 0} {Promise : R → Type 0} {state_of : R → S} {s : S} → (r : R) × Promise r × (s ≡ state_of r) → Left Promise state_of s
+left-by (r, p, e) = record { answer = r; gives = p; state = e }

@@ -5,10 +5,6 @@ use denote.Ref.{MutBor}
 use Rattle.bench_calls.specs.Times.{Held}
 
 module _ {F S : Type 0} (g : Shared F (MutBor S × (ℕ × Unit {0})) (Unit {0} × (MutBor S × Unit {0}))) (f : F) where
-  -- the k-th step may be taken from s
-  abbrev pub Takes : S → ℕ → Type 0
-  Takes s k = (shown : MutBor S) → shown.now ≡ s → g.pre f (shown, (k, tt))
-
   -- the k-th step leads from s to t
   pub record Steps (k : ℕ) (s t : S) : Type 0 where
     pub shown : MutBor S
@@ -21,10 +17,6 @@ abbrev pub Bytes : Type 0
 Bytes = MutBor (List ℕ)
 
 module _ {F S : Type 0} (g : Shared F (MutBor S × (ℕ × (Bytes × Unit {0}))) (Unit {0} × (MutBor S × (Bytes × Unit {0})))) (f : F) where
-  -- the same with any store lent
-  abbrev pub TakesAt : S → ℕ → Type 0
-  TakesAt s k = (shown : MutBor S) (store : Bytes) → shown.now ≡ s → g.pre f (shown, (k, (store, tt)))
-
   -- from a state and a store to the next state and what is then in the store
   pub record StepsAt (k : ℕ) (a b : S × List ℕ) : Type 0 where
     pub shown : MutBor S
@@ -36,10 +28,7 @@ module _ {F S : Type 0} (g : Shared F (MutBor S × (ℕ × (Bytes × Unit {0})))
     pub leaves : (left.now ≡ b.0) × (store'.now ≡ b.1)
 
 module _ {F S : Type 0} (g : Shared F (MutBor S × (ℕ × (Bytes × (Bytes × Unit {0})))) (Unit {0} × (MutBor S × (Bytes × (Bytes × Unit {0}))))) (f : F) where
-  -- the same with any two stores lent
-  abbrev pub TakesAtBoth : S → ℕ → Type 0
-  TakesAtBoth s k = (shown : MutBor S) (small lanes : Bytes) → shown.now ≡ s → g.pre f (shown, (k, (small, (lanes, tt))))
-
+  -- the same with two stores
   pub record StepsAtBoth (k : ℕ) (a b : Held S) : Type 0 where
     pub shown : MutBor S
     pub small : Bytes

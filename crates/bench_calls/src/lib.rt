@@ -1,16 +1,12 @@
 #![tactic(auto)]
 // What bench/ measures: each call is one scenario, on ends of its own. The answers are sums, by which
 // the program there sees that the work was done.
-ghost use Rattle.std.specs.Prelude.{◌≡◌, ◌<◌, ◌+◌, ℕ, List, length};
+ghost use Rattle.std.specs.Prelude.{◌≡◌, length};
 ghost use Rattle.octets.specs.Writer.{put_of};
 ghost use Rattle.packet.specs.Packet.{decoded_of};
 ghost use Rattle.pack.specs.Round.{went_of};
-ghost use Rattle.send_reliable.specs.Sender as sr;
-ghost use Rattle.send_unreliable.specs.Sender as su;
-ghost use Rattle.receive_reliable.specs.Receive as rr;
-ghost use Rattle.receive_unreliable.specs.Receive as ru;
-ghost use Rattle.bench_calls.specs.Times.{Times, Filled, Held, held};
-ghost use Rattle.bench_calls.specs.Calls.{Takes, Steps, TakesAt, StepsAt, TakesAtBoth, StepsAtBoth};
+ghost use Rattle.bench_calls.specs.Times.{Times, Filled, held};
+ghost use Rattle.bench_calls.specs.Calls.{Steps, StepsAt, StepsAtBoth};
 ghost use Rattle.bench_calls.specs.Packets.{sample_of, written_of, used_of, WriteGives, ReadGives};
 ghost use Rattle.bench_calls.specs.Ends as ends;
 
@@ -111,8 +107,7 @@ pub extern "C" fn bench_read(bytes: &[u8], messages: &mut [u64], ranges: &mut [R
 // So many steps from a state, each told its number. A step changes the state in place: handed over and back
 // it would be copied once more.
 fn times<S, F: Fn(&mut S, usize)>(first: S, count: usize, step: F) -> S
-    requires begins { Takes F.Fn step first 0 }
-    requires goes_on { (k : ℕ) (s t : S) → k + 1 < count → Steps F.Fn step k s t → Takes F.Fn step t (k + 1) }
+    requires { F.IsAlwaysCallable step }
     ensures { Times (Steps F.Fn step) count first result }
 {
     let mut state = first;
@@ -129,8 +124,7 @@ fn times_at<S, F: Fn(&mut S, usize, &mut [u8])>(
     store: &mut [u8],
     step: F,
 ) -> S
-    requires begins { TakesAt F.Fn step first 0 }
-    requires goes_on { (k : ℕ) (a b : S × List ℕ) → k + 1 < count → StepsAt F.Fn step k a b → TakesAt F.Fn step b.0 (k + 1) }
+    requires { F.IsAlwaysCallable step }
     ensures { Times (StepsAt F.Fn step) count (first, store.old) (result, store.new) }
 {
     let mut state = first;
@@ -148,8 +142,7 @@ fn times_at_both<S, F: Fn(&mut S, usize, &mut [u8], &mut [u8])>(
     lanes: &mut [u8],
     step: F,
 ) -> S
-    requires begins { TakesAtBoth F.Fn step first 0 }
-    requires goes_on { (k : ℕ) (a b : Held S) → k + 1 < count → StepsAtBoth F.Fn step k a b → TakesAtBoth F.Fn step b.state (k + 1) }
+    requires { F.IsAlwaysCallable step }
     ensures { Times (StepsAtBoth F.Fn step) count (held first small.old lanes.old) (held result small.new lanes.new) }
 {
     let mut state = first;
@@ -168,7 +161,7 @@ fn sr_queued(
     small: &mut [u8],
     lanes: &mut [u8],
 ) -> SendChannelReliable
-    ensures { Filled ends.SrNew (ends.SrQueues message.now) count small.old lanes.old small.new lanes.new result × sr.Valid result }
+    ensures { Filled ends.SrNew (ends.SrQueues message.now) count small.old lanes.old small.new lanes.new result }
 {
     let made = SendChannelReliable::new(0, LARGEST, 0);
     times_at_both(made.state, count, small, lanes, |s, _, small, lanes| {
@@ -178,8 +171,7 @@ fn sr_queued(
 
 // Acknowledges the first messages.
 fn sr_acked(first: SendChannelReliable, count: usize) -> SendChannelReliable
-    requires { sr.Valid first }
-    ensures { Times ends.SrAcks count first result × sr.Valid result }
+    ensures { Times ends.SrAcks count first result }
 {
     times(first, count, |s, k| {
         *s = s.process_message_ack(MessageId(k as u64)).state
@@ -188,8 +180,7 @@ fn sr_acked(first: SendChannelReliable, count: usize) -> SendChannelReliable
 
 // Acknowledges the first pieces of message 0.
 fn sr_acked_pieces(first: SendChannelReliable, count: usize) -> SendChannelReliable
-    requires { sr.Valid first }
-    ensures { Times ends.SrAcksPiece count first result × sr.Valid result }
+    ensures { Times ends.SrAcksPiece count first result }
 {
     times(first, count, |s, k| {
         *s = s
@@ -247,7 +238,6 @@ fn sr_sent(
     out: &mut [u8],
     table: &mut [u64],
 ) -> usize
-    requires { sr.Valid first }
     ensures { ends.SrSent small.now lanes.now rounds first out.old table.old out.new table.new result }
 {
     let mut state = first;
@@ -285,7 +275,7 @@ fn su_queued(
     small: &mut [u8],
     lanes: &mut [u8],
 ) -> SendChannelUnreliable
-    ensures { Filled ends.SuNew (ends.SuQueues message.now) count small.old lanes.old small.new lanes.new result × su.Valid result }
+    ensures { Filled ends.SuNew (ends.SuQueues message.now) count small.old lanes.old small.new lanes.new result }
 {
     let made = SendChannelUnreliable::new(0, LARGEST);
     times_at_both(made.state, count, small, lanes, |s, _, small, lanes| {
@@ -332,7 +322,7 @@ fn rr_received(
     small: &mut [u8],
     lanes: &[u8],
 ) -> ReceiveChannelReliable
-    ensures { Filled ends.RrNew (ends.RrHears message.now) count small.old lanes.now small.new lanes.now result × rr.Valid result }
+    ensures { Filled ends.RrNew (ends.RrHears message.now) count small.old lanes.now small.new lanes.now result }
 {
     let made = ReceiveChannelReliable::new(LARGEST);
     times_at(made.state, count, small, |s, k, small| {
@@ -349,7 +339,7 @@ fn rr_collected(
     small: &[u8],
     lanes: &mut [u8],
 ) -> ReceiveChannelReliable
-    ensures { Filled ends.RrNew (ends.RrCollects count payload.now) count small.now lanes.old small.now lanes.new result × rr.Valid result }
+    ensures { Filled ends.RrNew (ends.RrCollects count payload.now) count small.now lanes.old small.now lanes.new result }
 {
     let made = ReceiveChannelReliable::new(LARGEST);
     times_at(made.state, count, lanes, |s, k, lanes| {
@@ -362,8 +352,7 @@ fn rr_collected(
 
 // Takes so many messages out.
 fn rr_taken(first: ReceiveChannelReliable, count: usize) -> ReceiveChannelReliable
-    requires { rr.Valid first }
-    ensures { Times ends.RrTakes count first result × rr.Valid result }
+    ensures { Times ends.RrTakes count first result }
 {
     times(first, count, |s, _| *s = s.receive_message().state)
 }
@@ -407,7 +396,7 @@ fn ru_received(
     small: &mut [u8],
     lanes: &[u8],
 ) -> ReceiveChannelUnreliable
-    ensures { Filled ends.RuNew (ends.RuHears message.now) count small.old lanes.now small.new lanes.now result × ru.Valid result }
+    ensures { Filled ends.RuNew (ends.RuHears message.now) count small.old lanes.now small.new lanes.now result }
 {
     let made = ReceiveChannelUnreliable::new(LARGEST);
     times_at(made.state, count, small, |s, _, small| {
@@ -422,7 +411,7 @@ fn ru_collected(
     small: &[u8],
     lanes: &mut [u8],
 ) -> ReceiveChannelUnreliable
-    ensures { Filled ends.RuNew (ends.RuCollects count payload.now) count small.now lanes.old small.now lanes.new result × ru.Valid result }
+    ensures { Filled ends.RuNew (ends.RuCollects count payload.now) count small.now lanes.old small.now lanes.new result }
 {
     let made = ReceiveChannelUnreliable::new(LARGEST);
     times_at(made.state, count, lanes, |s, k, lanes| {
@@ -435,8 +424,7 @@ fn ru_collected(
 
 // Takes so many messages out.
 fn ru_taken(first: ReceiveChannelUnreliable, count: usize) -> ReceiveChannelUnreliable
-    requires { ru.Valid first }
-    ensures { Times ends.RuTakes count first result × ru.Valid result }
+    ensures { Times ends.RuTakes count first result }
 {
     times(first, count, |s, _| *s = s.receive_message().state)
 }

@@ -1,8 +1,7 @@
 -- `bench_calls::sr_acked_pieces` meets its contract: each step is an ack. Assumes nothing.
 use Rattle.std.proofs.Common.{rules}
-use Rattle.send_reliable.specs.Sender.{Valid}
-use Rattle.bench_calls.proofs.Laws.{carried, kept}
+use Rattle.bench_calls.proofs.Laws.{carried, left-by}
 use Rattle.bench_calls.proofs.sr_acked_pieces.Goals as goal
 
 pub returns : goal.returns
-returns c = carried Valid (λ k s t v p. kept Valid (λ r g. g.valid) (search rules)) c.requires c.times.ensures
+returns c = carried (λ k s t p. left-by (search rules)) c.times.ensures

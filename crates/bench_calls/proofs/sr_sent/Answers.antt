@@ -6,15 +6,12 @@ use Rattle.bench_calls.specs.Times.{none, more}
 use Rattle.bench_calls.proofs.sr_sent.Goals as goal
 
 pub loop-init : goal.loop-init
-loop-init c = (none, refl, refl, c.requires)
-
-pub get_packets_to_send-round-requires : goal.get_packets_to_send-round-requires
-get_packets_to_send-round-requires c = c.loop.invariant.3
+loop-init c = (none, refl, refl)
 
 pub loop-preserved : goal.loop-preserved
 loop-preserved c =
     let round = c.get_packets_to_send-round in
-    (rw add-one (more c.loop.invariant.0 (record { round = round.result; gives = round.ensures; state = refl; packets = c.packets_of-packets.ensures })), omega arith, omega arith, round.ensures.valid)
+    (rw add-one (more c.loop.invariant.0 (record { round = round.result; gives = round.ensures; state = refl; packets = c.packets_of-packets.ensures })), omega arith, omega arith)
 
 pub returns : goal.returns
 returns c =
