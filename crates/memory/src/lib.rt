@@ -83,17 +83,3 @@ pub fn span_of<T>(s: &[T], from: usize, n: usize) -> Span
     let end = from.saturating_add(n).min(s.len());
     Span { start, end }
 }
-
-// The part of so many bytes from a place on, as far as there are any.
-pub fn bytes_span(s: &[u8], from: usize, n: usize) -> Span
-    ensures { SpanGives from n (length s.now) result }
-{
-    span_of(s, from, n)
-}
-
-// The same of words.
-pub fn words_span(t: &[u64], from: usize, n: usize) -> Span
-    ensures { SpanGives from n (length t.now) result }
-{
-    span_of(t, from, n)
-}

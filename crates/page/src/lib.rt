@@ -27,13 +27,6 @@ pub fn part<T>(n: usize, s: &[T]) -> usize
     n.min(s.len())
 }
 
-// The same of words.
-pub fn words_part(n: usize, t: &[u64]) -> usize
-    ensures { (result ≡ min n (length t.now)) × IsPrefixLen result t.now }
-{
-    part(n, t)
-}
-
 // The words of a table from a place on.
 pub fn words_from(t: &[u64], from: usize) -> &[u64]
     ensures { result.now ≡ drop from t.now }

@@ -216,7 +216,7 @@ fn digest<T: Copy + Into<u64>>(s: &[T]) -> u64
     h
 }
 
-// A digest of bytes.
+// A digest of bytes. Two names, since at one type the promise needs no map from what is digested to numbers.
 pub fn digest_bytes(s: &[u8]) -> u64
     ensures { result ≡ digest_of s.now }
 {

@@ -238,8 +238,8 @@ fn after(r: &Receivers, at: usize) -> Told
 
 // The i-th packet of the last round of the sender of the same kind.
 fn kept<'a>(reliable: bool, i: usize, out: &'a [u8], table: &[u64]) -> &'a [u8] {
-    let o = memory::bytes_span(out, one(reliable, 0, memory::SU_OUT), memory::OUT);
-    let w = memory::words_span(table, one(reliable, 0, memory::SU_TABLE), memory::TABLE);
+    let o = memory::span_of(out, one(reliable, 0, memory::SU_OUT), memory::OUT);
+    let w = memory::span_of(table, one(reliable, 0, memory::SU_TABLE), memory::TABLE);
     packets::kept(&out[o.start..o.end], &table[w.start..w.end], i)
 }
 
@@ -273,12 +273,12 @@ fn made(
     page: &mut [u8],
 ) -> usize {
     let n = seen(r, t);
-    let s = memory::bytes_span(
+    let s = memory::span_of(
         small,
         one(t.reliable, memory::RR_SMALL, memory::RU_SMALL),
         n.small,
     );
-    let l = memory::bytes_span(
+    let l = memory::span_of(
         lanes,
         one(t.reliable, memory::RR_LANES, memory::RU_LANES),
         n.lanes,
