@@ -87,8 +87,7 @@ fn main() {
 }
 
 // The first packet is lost. It had a piece of the first message, so nothing can come out yet.
-fn lossy(e: Ends, near: &Stores, far: &mut Stores) -> Rounded
-{
+fn lossy(e: Ends, near: &Stores, far: &mut Stores) -> Rounded {
     let r = cross(e, Sequence(0), 0, 1, near, far);
     Rounded {
         ends: take(r.ends, far),
@@ -97,16 +96,14 @@ fn lossy(e: Ends, near: &Stores, far: &mut Stores) -> Rounded
 }
 
 // After the resend time the missing piece goes again, and nothing else: both messages come out.
-fn again(r: Rounded, near: &Stores, far: &mut Stores) -> Ends
-{
+fn again(r: Rounded, near: &Stores, far: &mut Stores) -> Ends {
     let next = r.written.next_sequence;
     let r = cross(r.ends, next, RESEND_TIME, 0, near, far);
     take(take(r.ends, far), far)
 }
 
 // Queues a message that goes in pieces, and a small one.
-fn queue_both(e: Ends, near: &mut Stores) -> Ends
-{
+fn queue_both(e: Ends, near: &mut Stores) -> Ends {
     let mut long = [b'a'; LONG];
     long[SLICE_SIZE] = b'z';
     let e = queue(e, &long, near);
@@ -114,8 +111,7 @@ fn queue_both(e: Ends, near: &mut Stores) -> Ends
 }
 
 // Sets both ends up, for channel 0. Settings outside their ranges would be refused (9).
-fn start() -> Ends
-{
+fn start() -> Ends {
     let settings = Settings {
         slots: SLOTS,
         lanes: LANES,
@@ -150,8 +146,7 @@ fn cross(
     k: usize,
     near: &Stores,
     far: &mut Stores,
-) -> Rounded
-{
+) -> Rounded {
     let mut wire = [0u8; WIRE];
     let mut table = [0u64; TABLE];
     let r = round(e, sequence, current_time, near, &mut wire, &mut table);
@@ -194,8 +189,7 @@ fn deliver_from(
     wire: &[u8],
     table: &[u64; TABLE],
     far: &mut Stores,
-) -> Ends
-{
+) -> Ends {
     let mut ends = e;
     for i in k..packets {
         ends = deliver(ends, packet_at(wire, table, i), far);
@@ -205,8 +199,7 @@ fn deliver_from(
 
 // Reads a packet and hands what is in it to the receiver. A program with more channels looks at the
 // packet's `channel_id` first.
-fn deliver(e: Ends, packet: &[u8], far: &mut Stores) -> Ends
-{
+fn deliver(e: Ends, packet: &[u8], far: &mut Stores) -> Ends {
     let mut messages = [0u64; MESSAGE_TABLE];
     let mut ranges = [Range { start: 0, end: 0 }; RANGES];
     let Ok((p, _)) = packet::from_bytes(packet, &mut messages, &mut ranges) else {
@@ -227,8 +220,7 @@ fn deliver_small(
     packet: &[u8],
     messages: &[u64; MESSAGE_TABLE],
     far: &mut Stores,
-) -> Ends
-{
+) -> Ends {
     let mut ends = e;
     for i in 0..count {
         let id = message_id_at(messages, i);
@@ -382,8 +374,7 @@ fn say_round(answer: Result<Written, Refusal>, sequence: Sequence) -> Written {
 }
 
 // Says how many bytes wait at each end.
-fn say_usage(e: Ends)
-{
+fn say_usage(e: Ends) {
     say(
         b"bytes in use: sender ",
         e.sender.memory_usage_bytes() as u64,
