@@ -2,7 +2,6 @@
 // A page of text that waits to be written: words, numbers and bytes are set down one after the other, and
 // what stands there is written out when there is no room.
 ghost use Rattle.std.specs.Prelude.{◌≡◌, List, [], ◌∷◌, ◌++◌, ◌+◌, ◌-◌, ◌^◌, ◌≤◌, ◌<◌, min, length, get_or, take, drop, eqb};
-ghost use Rattle.io.specs.Counts.{IsPrefixLen};
 ghost use Rattle.words.specs.Choice.{pick};
 ghost use Rattle.script.specs.Ascii.{ascii};
 ghost use Rattle.say.specs.Spelled.{WIDEST, point_of, text_of};
