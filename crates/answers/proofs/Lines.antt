@@ -5,9 +5,8 @@ use mathlib.Core.List.{List}
 use lib.ListN.{get_or}
 use Rattle.script.specs.Ascii.{ascii}
 use Rattle.page.specs.Page.{Sheet, put, said}
-use Rattle.packet.specs.declared.Decoded.{Decoded}
 use Rattle.channel.specs.declared.Settings.{Settings}
-use Rattle.answers.specs.Packets.{rows_said, told_said, Reads}
+use Rattle.answers.specs.Packets.{told_said, Reads, Decoded}
 use Rattle.answers.specs.Rounds.{start_at, kept_at, shown_said, Desk, Apart}
 use Rattle.answers.specs.Lent.{settings_at}
 
@@ -15,9 +14,6 @@ pub settings-read : (ns : List ℕ) (i a b c d : ℕ) → a ≡ get_or ns i 0 �
     → ◌≡◌ {A = Settings} (record { slots = a; lanes = b; pieces = c; max_memory_usage_bytes = d }) (settings_at ns i)
 unfolding settings_at
 settings-read ns i a b c d e f g h = rw (e, f, g, h) refl
-
-pub rows_behind : (s : List ℕ) (width n : ℕ) (t t' : List ℕ) (a b c : Sheet) → t ≡ t' → b ≡ a → c ≡ rows_said s width n t b → c ≡ rows_said s width n t' a
-rows_behind s width n t t' a b c e f g = g ∙ rw (e, f) refl
 
 -- the line of a packet, of the bytes and the start that were read in the table
 module _ (n : ℕ) (out table : List ℕ) (k : ℕ) (a b : Desk) (s : List ℕ) (start : ℕ) (x y : Sheet) (d : Decoded) where

@@ -5,11 +5,10 @@ use mathlib.Core.List.{List}
 use lib.ListN.{length}
 use Rattle.packet.specs.Packet.{leaves, ranges_of}
 use Rattle.packet.specs.Steps.{ReadGives, lent_of}
-use Rattle.packet.specs.declared.Decoded.{Decoded}
 use Rattle.packet.specs.declared.DecodedTable.{DecodedTable}
 use Rattle.packet.proofs.Theorems.{one_table}
 use Rattle.range_words.specs.Words.{table_of}
-use Rattle.answers.specs.Packets.{RANGE, packet_in, Reads}
+use Rattle.answers.specs.Packets.{RANGE, packet_in, Reads, Decoded}
 use Rattle.answers.specs.Rounds.{kept_at, Desk, Apart, Listed, none, more}
 
 module _ (bs ms rs : List ℕ) where

@@ -1,5 +1,5 @@
 -- Packets in words. docs/SCRIPT.md, "Packets". Assumes nothing.
-use Rattle.std.specs.Prelude.{ℕ, zero, suc, ◌+◌, ◌*◌, ◌-◌, ◌/◌, ◌≡◌, List, [], ◌∷◌, length, get_or, take, drop, leb}
+use Rattle.std.specs.Prelude.{ℕ, zero, suc, ◌+◌, ◌*◌, ◌-◌, ◌/◌, ◌≡◌, List, [], ◌∷◌, length, get_or, take, drop, leb, Result, Ok, Err}
 use Rattle.words.specs.Choice.{pick}
 use Rattle.script.specs.Ascii.{ascii}
 use Rattle.page.specs.Page.{Sheet, said, said_refusal, lined}
@@ -12,9 +12,12 @@ use Rattle.packet.specs.Packet.{packet, judged, told, leaves, messages_of, range
 use Rattle.packet.specs.Steps.{lent_of}
 use Rattle.packet.specs.declared.Packet.{Packet}
 use Rattle.packet.specs.declared.Packet.TheVariants.{SmallReliable, SmallUnreliable, ReliableSlice, UnreliableSlice, Ack}
-use Rattle.packet.specs.declared.Decoded.{Decoded}
-use Rattle.packet.specs.declared.Decoded.TheVariants.{Whole, Refused}
 use Rattle.range_words.specs.Words.{table_of, set_down}
+use Rattle.words.specs.declared.Refusal.{Refusal}
+
+-- a packet that was read and how many bytes it has, or the refusal
+abbrev pub Decoded : Type 0
+Decoded = Result (Packet × ℕ) Refusal
 
 -- ---- a packet in words
 
@@ -48,13 +51,13 @@ packet_said (Ack s) ms rs sh = rows_said (ascii ", #..#") RANGE s.count rs (line
 
 -- the packet, or the refusal
 unfoldable pub told_said : Decoded → List ℕ → List ℕ → Sheet → Sheet
-told_said (Refused e) ms rs sh = said_refusal e sh
-told_said (Whole p used) ms rs sh = packet_said p ms rs sh
+told_said (Err e) ms rs sh = said_refusal e sh
+told_said (Ok (p, used)) ms rs sh = packet_said p ms rs sh
 
 -- the packet and how many bytes it has, or the refusal
 unfoldable pub decoded_said : Decoded → List ℕ → List ℕ → Sheet → Sheet
-decoded_said (Refused e) ms rs sh = said_refusal e sh
-decoded_said (Whole p used) ms rs sh = lined (ascii "; used #") (used ∷ []) (packet_said p ms rs sh)
+decoded_said (Err e) ms rs sh = said_refusal e sh
+decoded_said (Ok (p, used)) ms rs sh = lined (ascii "; used #") (used ∷ []) (packet_said p ms rs sh)
 
 -- ---- a packet read into tables of words
 

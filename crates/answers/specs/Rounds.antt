@@ -2,9 +2,8 @@
 use Rattle.std.specs.Prelude.{ℕ, suc, ◌+◌, ◌*◌, ◌≡◌, List, [], ◌∷◌, length, get_or}
 use Rattle.script.specs.Ascii.{ascii}
 use Rattle.page.specs.Page.{Sheet, said, lined, spelt}
-use Rattle.packet.specs.declared.Decoded.{Decoded}
 use Rattle.pack.specs.declared.Written.{Written}
-use Rattle.answers.specs.Packets.{told_said, Reads, bytes_at}
+use Rattle.answers.specs.Packets.{Decoded, told_said, Reads, bytes_at}
 
 -- what a round wrote
 abbrev pub sent_said : Written → Sheet → Sheet

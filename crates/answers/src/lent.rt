@@ -5,7 +5,7 @@ ghost use Rattle.answers.specs.Lent.{settings_at, whole_settings};
 use channel::Settings;
 
 // How many bytes of the two stores of a channel end are lent.
-#[derive(Clone, Copy)]
+#[derive(Clone, Copy, Debug, PartialEq, Eq)]
 pub struct Stores {
     pub small: usize,
     pub lanes: usize,

@@ -4,7 +4,7 @@ pub mod lent;
 pub mod packets;
 
 // The k-th call of an end, in the n-th line of a script; its answer goes to a place of the page.
-#[derive(Clone, Copy)]
+#[derive(Clone, Copy, Debug, PartialEq, Eq)]
 pub struct Call {
     pub k: usize,
     pub n: u64,

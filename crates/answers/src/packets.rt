@@ -5,20 +5,25 @@ ghost use Rattle.answers.specs.Packets.{small_said, slice_said, rows_said, packe
 ghost use Rattle.answers.specs.Rounds.{sent_said, start_at, kept_at, number_said, shown_said, desk, Apart, Listed};
 
 use pack::Written;
-use packet::{Decoded, Packet};
+use packet::Packet;
 use packet_slice::Slice;
 use packet_small::{RECORD, Small};
+use words::Refusal;
 
 // Words of a table for each range.
 const RANGE: usize = 2;
 
+// A packet that was read and how many bytes it has, or the refusal.
+pub type Decoded = Result<(Packet, usize), Refusal>;
+
 // Says a decoded packet and how many bytes it has, or the refusal. Its tables are filled.
+#[tactic(auto, unfolding(crate::specs::Packets::decoded_said))]
 pub fn decoded(page: &mut [u8], at: usize, d: Decoded, messages: &[u64], ranges: &[u64]) -> usize
     ensures { sheet page.new result ≡ decoded_said d messages.now ranges.now (sheet page.old at) }
 {
     match d {
-        Decoded::Refused(e) => page::refusal(page, at, e),
-        Decoded::Whole(p, used) => {
+        Err(e) => page::refusal(page, at, e),
+        Ok((p, used)) => {
             let a = whole(page, at, p, messages, ranges);
             page::line(page, a, b"; used #", &[used as u64])
         }
@@ -26,16 +31,18 @@ pub fn decoded(page: &mut [u8], at: usize, d: Decoded, messages: &[u64], ranges:
 }
 
 // Says a decoded packet, or the refusal.
+#[tactic(auto, unfolding(crate::specs::Packets::told_said))]
 fn told(page: &mut [u8], at: usize, d: Decoded, messages: &[u64], ranges: &[u64]) -> usize
     ensures { sheet page.new result ≡ told_said d messages.now ranges.now (sheet page.old at) }
 {
     match d {
-        Decoded::Refused(e) => page::refusal(page, at, e),
-        Decoded::Whole(p, _) => whole(page, at, p, messages, ranges),
+        Err(e) => page::refusal(page, at, e),
+        Ok((p, _)) => whole(page, at, p, messages, ranges),
     }
 }
 
 // Says a packet of any kind.
+#[tactic(auto, unfolding(crate::specs::Packets::packet_said))]
 fn whole(page: &mut [u8], at: usize, p: Packet, messages: &[u64], ranges: &[u64]) -> usize
     ensures { sheet page.new result ≡ packet_said p messages.now ranges.now (sheet page.old at) }
 {
@@ -72,7 +79,7 @@ fn small(page: &mut [u8], at: usize, name: &[u8], s: Small) -> usize
         at,
         name,
         b" sequence # channel # messages #",
-        &[s.sequence.0, s.channel_id as u64, s.count as u64],
+        &[s.sequence.0, u64::from(s.channel_id), s.count as u64],
     )
 }
 
@@ -87,7 +94,7 @@ fn slice(page: &mut [u8], at: usize, name: &[u8], s: Slice) -> usize
         b" sequence # channel # message # slice # of # at # length #",
         &[
             s.sequence.0,
-            s.channel_id as u64,
+            u64::from(s.channel_id),
             s.message_id.0,
             s.slice_index.0,
             s.num_slices,
@@ -111,11 +118,9 @@ fn rows(page: &mut [u8], at: usize, s: &[u8], t: &[u64], width: usize, count: us
 {
     let mut a = at;
     let mut j = 0;
-    let mut left = count;
-    while 0 < left {
+    for _ in 0..count {
         a = page::line(page, a, s, page::words_from(t, j));
         j = page::sum(j, width);
-        left -= 1;
     }
     a
 }
@@ -124,14 +129,10 @@ fn rows(page: &mut [u8], at: usize, s: &[u8], t: &[u64], width: usize, count: us
 pub fn bytes_at(s: &[u8], place: usize, len: usize) -> &[u8]
     ensures { result.now ≡ bytes_at s.now place len }
 {
-    if s.len() < place {
-        return &s[..0];
+    if s.len() < place || s.len() - place < len {
+        return &[];
     }
-    if s.len() - place < len {
-        return &s[..0];
-    }
-    let end = place + len;
-    &s[place..end]
+    &s[place..place + len]
 }
 
 // The bytes from a place to another; none where they are not there.
@@ -139,7 +140,7 @@ pub fn bytes_to(s: &[u8], place: usize, end: usize) -> &[u8]
     ensures { result.now ≡ bytes_to_of s.now place end }
 {
     if end < place {
-        return &s[..0];
+        return &[];
     }
     bytes_at(s, place, end - place)
 }
@@ -195,7 +196,8 @@ pub fn sent(page: &mut [u8], at: usize, w: Written) -> usize
     )
 }
 
-// A line for each packet of a round, behind the number of the round's line.
+// A line for each packet of a round, behind the number of the round's line. The buffers are lent one by
+// one: each is a part of a larger one at the caller's, so a struct of them would be made for one call.
 pub fn listed(
     page: &mut [u8],
     at: usize,
@@ -211,10 +213,8 @@ pub fn listed(
         (desk (sheet page.new result) messages.new ranges.new) }
 {
     let mut a = at;
-    let mut k = 0;
-    while k < packets {
+    for k in 0..packets {
         a = taken_apart(page, a, n, k, out, table, messages, ranges);
-        k += 1;
     }
     a
 }
@@ -268,8 +268,6 @@ pub fn read(bytes: &[u8], messages: &mut [u64], ranges: &mut [u64]) -> Decoded
 {
     let before = range_words::from_words(ranges);
     let d = packet::decode(bytes, messages, before, ranges.len() / RANGE);
-    let answer = d.answer;
-    let after = d.ranges;
-    range_words::to_words(ranges, after);
-    answer
+    range_words::to_words(ranges, d.ranges);
+    d.answer
 }

@@ -1,26 +1,53 @@
 -- A line taken apart by a list of calls. docs/SCRIPT.md, "Calls" and "Bad lines". Assumes nothing.
-use Rattle.std.specs.Prelude.{ℕ, zero, suc, ◌+◌, min, Bool, List, [], ◌∷◌, length, set, eqb, ltb}
+use Rattle.std.specs.Prelude.{ℕ, zero, suc, ◌+◌, min, Bool, List, [], ◌∷◌, length, set, eqb, ltb, Option, Some, None, Result, Ok, Err}
 use Prim.Native.Char.{code}
 use Rattle.words.specs.Choice.{pick}
 use Rattle.words.specs.Lists.{splice}
 use Rattle.script.specs.Words.{word_at, letters_of, same}
-use Rattle.script.specs.Numbers.{number_of}
-use Rattle.script.specs.Bytes.{Outcome, bytes_of}
+use Rattle.script.specs.Numbers.{Number, number_of}
+use Rattle.script.specs.Bytes.{Bytes, Outcome, bytes_of}
 use Rattle.script.specs.declared.Word.{Word}
-use Rattle.script.specs.declared.Number.{Number}
-use Rattle.script.specs.declared.Number.TheVariants.{Value, NotANumber as no_number, TooLarge as too_large}
-use Rattle.script.specs.declared.Bytes.{Bytes}
-use Rattle.script.specs.declared.Bytes.TheVariants.{To, NotBytes as no_bytes, TooMany as too_many}
+use Rattle.script.specs.declared.NumberFault.{NumberFault}
+use Rattle.script.specs.declared.NumberFault.TheVariants.{NotANumber as no_number, TooLarge as too_large}
+use Rattle.script.specs.declared.BytesFault.{BytesFault}
+use Rattle.script.specs.declared.BytesFault.TheVariants.{NotBytes as no_bytes, TooMany as too_many}
 use Rattle.memory.specs.Sizes.{SMALL, LANE, LANES, OUT, TABLE, MESSAGES, RANGES, WIRE}
 use Rattle.arguments.specs.Sizes.{MAX, CHANNEL, COUNT, MORE}
+use Rattle.arguments.specs.declared.Fault.{Fault}
 use Rattle.arguments.specs.declared.Fault.TheVariants.{Missing, NotANumber, TooLarge, NotBytes, TooMany, OneTooMany}
-use Rattle.arguments.specs.declared.Read.{Read}
-use Rattle.arguments.specs.declared.Read.TheVariants.{Call, NoCall, Bad}
+use Rattle.arguments.specs.declared.Call.{Call}
+use Rattle.arguments.specs.declared.LineFault.{LineFault}
+use Rattle.arguments.specs.declared.LineFault.TheVariants.{NoCall, Bad}
 use Rattle.arguments.specs.declared.Taken.{Taken}
-use Rattle.arguments.specs.declared.Step.{Step}
-use Rattle.arguments.specs.declared.Step.TheVariants.{Good, Faulty}
-use Rattle.arguments.specs.declared.Found.{Found}
-use Rattle.arguments.specs.declared.Found.TheVariants.{At, Nothing}
+
+-- a line taken apart, or what is wrong with it
+abbrev pub Read : Type 0
+Read = Result Call LineFault
+
+-- how far one argument was taken, or what is wrong with it
+abbrev pub Step : Type 0
+Step = Result Taken Fault
+
+-- which call of a list, and the form of its arguments
+abbrev pub Found : Type 0
+Found = Option (ℕ × Word)
+
+-- the k-th call, with so many numbers and bytes
+abbrev pub called : ℕ → ℕ → ℕ → Read
+called k n b = Ok (record { call = k; numbers = n; bytes = b })
+
+-- the same, of what was taken
+abbrev pub called_with : ℕ → Taken → Call
+called_with k t = record { call = k; numbers = t.numbers; bytes = t.bytes }
+
+-- faults of numbers and of bytes are faults of their argument
+abbrev pub number_fault : NumberFault → Fault
+number_fault no_number = NotANumber
+number_fault too_large = TooLarge
+
+abbrev pub bytes_fault : BytesFault → Fault
+bytes_fault no_bytes = NotBytes
+bytes_fault too_many = TooMany
 
 -- an answer, and what stands in the lent numbers and bytes with it
 pub record Leaves (A : Type 0) : Type 0 where
@@ -43,11 +70,11 @@ form_at calls at = word_at calls (word_at calls at).end
 
 -- the first call of a name among n, from the k-th on, at a place of the list
 unfoldable pub found_from : ℕ → List ℕ → List ℕ → ℕ → ℕ → Found
-found_from zero calls name at k = Nothing
+found_from zero calls name at k = None
 found_from (suc n) calls name at k =
     pick (has (word_at calls at))
-    (pick (same (letters_of calls (word_at calls at)) name) (At k (form_at calls at)) (found_from n calls name (form_at calls at).end (k + 1)))
-    Nothing
+    (pick (same (letters_of calls (word_at calls at)) name) (Some (k, form_at calls at)) (found_from n calls name (form_at calls at).end (k + 1)))
+    None
 
 -- a list has no more calls than letters
 abbrev pub found : List ℕ → List ℕ → Found
@@ -79,17 +106,17 @@ place_after room i = pick (ltb i room) (i + 1) i
 
 -- a number is judged by its form and then by its size, and set down behind those before it
 abbrev pub number_taken : ℕ → ℕ → Taken → List ℕ → List ℕ → Number → Leaves Step
-number_taken most end t ns bs no_number = leaves (Faulty NotANumber) ns bs
-number_taken most end t ns bs too_large = leaves (Faulty TooLarge) ns bs
-number_taken most end t ns bs (Value v) =
-    pick (ltb most v) (leaves (Faulty TooLarge) ns bs)
-    (leaves (Good (record { at = end; count = counted t.count; numbers = place_after (length ns) t.numbers; bytes = t.bytes })) (set ns t.numbers v) bs)
+number_taken most end t ns bs (Err no_number) = leaves (Err NotANumber) ns bs
+number_taken most end t ns bs (Err too_large) = leaves (Err TooLarge) ns bs
+number_taken most end t ns bs (Ok v) =
+    pick (ltb most v) (leaves (Err TooLarge) ns bs)
+    (leaves (Ok (record { at = end; count = counted t.count; numbers = place_after (length ns) t.numbers; bytes = t.bytes })) (set ns t.numbers v) bs)
 
 -- bytes are set down at the front; those before a faulty part, or one that has no room, stay there
 abbrev pub bytes_step : ℕ → Taken → Bytes → Step
-bytes_step end t no_bytes = Faulty NotBytes
-bytes_step end t too_many = Faulty TooMany
-bytes_step end t (To n) = Good (record { at = end; count = counted t.count; numbers = t.numbers; bytes = n })
+bytes_step end t (Err no_bytes) = Err NotBytes
+bytes_step end t (Err too_many) = Err TooMany
+bytes_step end t (Ok n) = Ok (record { at = end; count = counted t.count; numbers = t.numbers; bytes = n })
 
 abbrev pub bytes_taken : ℕ → Taken → List ℕ → List ℕ → Outcome → Leaves Step
 bytes_taken end t ns bs o = leaves (bytes_step end t o.answer) ns (splice 0 o.told bs)
@@ -101,24 +128,29 @@ word_taken c line w t ns bs =
     (pick (eqb c (code "b"))
     (bytes_taken w.end t ns bs (bytes_of (length bs) (letters_of line w)))
     (number_taken (most_of c) w.end t ns bs (number_of (letters_of line w))))
-    (leaves (Faulty Missing) ns bs)
+    (leaves (Err Missing) ns bs)
 
 -- `-` is none
 unfoldable pub argument_taken : ℕ → List ℕ → Taken → List ℕ → List ℕ → Leaves Step
-argument_taken c line t ns bs = pick (eqb c (code "-")) (leaves (Good t) ns bs) (word_taken c line (word_at line t.at) t ns bs)
+argument_taken c line t ns bs = pick (eqb c (code "-")) (leaves (Ok t) ns bs) (word_taken c line (word_at line t.at) t ns bs)
+
+-- a fault is told of the argument behind k others
+abbrev pub numbered_of : ℕ → Step → Result Taken LineFault
+numbered_of k (Ok t) = Ok t
+numbered_of k (Err e) = Err (Bad (counted k) e)
 
 -- ---- the arguments from the left: the first fault is told, by the number of its argument
 
 abbrev pub onward_by : Step → ℕ → List ℕ → List ℕ → (Taken → List ℕ → List ℕ → Leaves Read) → Leaves Read
-onward_by (Good t) k ns bs f = f t ns bs
-onward_by (Faulty e) k ns bs f = leaves (Bad (counted k) e) ns bs
+onward_by (Ok t) k ns bs f = f t ns bs
+onward_by (Err e) k ns bs f = leaves (Err (Bad (counted k) e)) ns bs
 
 abbrev pub onward : Leaves Step → ℕ → (Taken → List ℕ → List ℕ → Leaves Read) → Leaves Read
 onward a k f = onward_by a.answer k a.numbers a.bytes f
 
 -- nothing stands behind the last argument
 unfoldable pub ended_of : ℕ → List ℕ → Taken → Read
-ended_of k line t = pick (has (word_at line t.at)) (Bad (counted t.count) OneTooMany) (Call k t.numbers t.bytes)
+ended_of k line t = pick (has (word_at line t.at)) (Err (Bad (counted t.count) OneTooMany)) (called k t.numbers t.bytes)
 
 -- w: further numbers, as many as there are, and n at most
 unfoldable pub further_taken : ℕ → ℕ → List ℕ → Taken → List ℕ → List ℕ → Leaves Read
@@ -127,7 +159,7 @@ further_taken (suc n) k line t ns bs =
     pick (has (word_at line t.at))
     (onward (number_taken MAX (word_at line t.at).end t ns bs (number_of (letters_of line (word_at line t.at)))) t.count
     (λ u ns' bs'. further_taken n k line u ns' bs'))
-    (leaves (Call k t.numbers t.bytes) ns bs)
+    (leaves (called k t.numbers t.bytes) ns bs)
 
 -- a letter of the form for each
 unfoldable pub taken_by : ℕ → List ℕ → List ℕ → Taken → List ℕ → List ℕ → Leaves Read
@@ -142,8 +174,8 @@ abbrev pub begun : ℕ → Taken
 begun at = record { at = at; count = 0; numbers = 0; bytes = 0 }
 
 abbrev pub called_by : List ℕ → List ℕ → ℕ → List ℕ → List ℕ → Found → Leaves Read
-called_by calls line at ns bs Nothing = leaves NoCall ns bs
-called_by calls line at ns bs (At k form) = taken_by k (letters_of calls form) line (begun at) ns bs
+called_by calls line at ns bs None = leaves (Err NoCall) ns bs
+called_by calls line at ns bs (Some (k, form)) = taken_by k (letters_of calls form) line (begun at) ns bs
 
 unfoldable pub taken_apart_of : List ℕ → List ℕ → ℕ → List ℕ → List ℕ → Leaves Read
 taken_apart_of calls line from ns bs =

@@ -3,12 +3,12 @@
 ghost use Rattle.std.specs.Prelude.{◌≡◌, List, ℕ, length, set, ltb};
 ghost use Rattle.script.specs.Numbers.{number_of};
 ghost use Rattle.script.specs.Bytes.{bytes_of};
-ghost use Rattle.page.specs.Page.{sheet, said};
-ghost use Rattle.arguments.specs.Arguments.{leaves, found, most_of, place_after, number_taken, bytes_taken, argument_taken, ended_of, further_taken, taken_by, begun, taken_apart_of};
+ghost use Rattle.page.specs.Page.{sheet};
+ghost use Rattle.arguments.specs.Arguments.{number_fault, bytes_fault, called_with, numbered_of, leaves, found, most_of, place_after, number_taken, bytes_taken, argument_taken, ended_of, further_taken, taken_by, begun, taken_apart_of};
 ghost use Rattle.arguments.specs.Said.{fault_of, bad_said};
 ghost use Rattle.arguments.specs.Sizes.{MORE};
 
-use script::{Bytes, Number, Word};
+use script::{BytesFault, NumberFault, Word};
 
 // The largest channel, and the largest two-byte count.
 const CHANNEL: usize = 255;
@@ -18,7 +18,8 @@ const COUNT: usize = 65_535;
 // The most further numbers of a call that takes some.
 const MORE: usize = 192;
 
-#[derive(Clone, Copy)]
+// What is wrong with an argument.
+#[derive(Clone, Copy, Debug, PartialEq, Eq)]
 pub enum Fault {
     Missing,
     NotANumber,
@@ -28,14 +29,45 @@ pub enum Fault {
     OneTooMany,
 }
 
-// A line taken apart: which call of the list, how many numbers and how many bytes; or what is wrong.
-#[derive(Clone, Copy)]
-pub enum Read {
-    Call(usize, usize, usize),
+impl From<NumberFault> for Fault {
+    ghost from_gives = { λ e f. f ≡ number_fault e };
+
+    fn from(e: NumberFault) -> Fault {
+        match e {
+            NumberFault::NotANumber => Fault::NotANumber,
+            NumberFault::TooLarge => Fault::TooLarge,
+        }
+    }
+}
+
+impl From<BytesFault> for Fault {
+    ghost from_gives = { λ e f. f ≡ bytes_fault e };
+
+    fn from(e: BytesFault) -> Fault {
+        match e {
+            BytesFault::NotBytes => Fault::NotBytes,
+            BytesFault::TooMany => Fault::TooMany,
+        }
+    }
+}
+
+// A line taken apart: which call of the list, how many numbers and how many bytes.
+#[derive(Clone, Copy, Debug, PartialEq, Eq)]
+pub struct Call {
+    pub call: usize,
+    pub numbers: usize,
+    pub bytes: usize,
+}
+
+// What is wrong with a line; of a fault also which argument has it, counted from 1.
+#[derive(Clone, Copy, Debug, PartialEq, Eq)]
+pub enum LineFault {
     NoEnd,
     NoCall,
     Bad(usize, Fault),
 }
+
+pub type Read = Result<Call, LineFault>;
 
 // How far the arguments are read: the place, how many they are, and the numbers and bytes among them.
 #[derive(Clone, Copy)]
@@ -44,18 +76,6 @@ struct Taken {
     count: usize,
     numbers: usize,
     bytes: usize,
-}
-
-#[derive(Clone, Copy)]
-enum Step {
-    Good(Taken),
-    Faulty(Fault),
-}
-
-#[derive(Clone, Copy)]
-enum Found {
-    At(usize, Word),
-    Nothing,
 }
 
 // Takes a line apart from the word of the call on. A call stands in the list as its name and the form of
@@ -71,31 +91,27 @@ pub fn taken_apart(
     ensures { leaves result numbers.new bytes.new ≡ taken_apart_of calls.now line.now from numbers.old bytes.old }
 {
     let w = script::next_word(line, from);
-    let Found::At(k, form) = find(calls, script::letters(line, w)) else {
-        return Read::NoCall;
-    };
+    let (k, form) = find(calls, script::letters(line, w)).ok_or(LineFault::NoCall)?;
     take(k, script::letters(calls, form), line, w.end, numbers, bytes)
 }
 
 // A call by its name, and the form of its arguments.
-fn find(calls: &[u8], name: &[u8]) -> Found
+fn find(calls: &[u8], name: &[u8]) -> Option<(usize, Word)>
     ensures { result ≡ found calls.now name.now }
 {
     let mut at = 0;
-    let mut k = 0;
-    while k < calls.len() {
+    for k in 0..calls.len() {
         let w = script::next_word(calls, at);
         if !has(w) {
-            return Found::Nothing;
+            return None;
         }
         let form = script::next_word(calls, w.end);
         if script::is(script::letters(calls, w), name) {
-            return Found::At(k, form);
+            return Some((k, form));
         }
         at = form.end;
-        k += 1;
     }
-    Found::Nothing
+    None
 }
 
 fn has(w: Word) -> bool
@@ -121,32 +137,38 @@ fn take(
         numbers: 0,
         bytes: 0,
     };
-    let mut i = 0;
-    while i < form.len() {
-        let c = form[i];
-        if c == b'w' {
+    for c in form {
+        if *c == b'w' {
             return further(k, line, t, numbers);
         }
-        let s = argument(c, line, t, numbers, bytes);
-        match s {
-            Step::Good(next) => t = next,
-            Step::Faulty(e) => return Read::Bad(page::after(t.count), e),
-        }
-        i += 1;
+        t = numbered(t.count, argument(*c, line, t, numbers, bytes))?;
     }
     ended(k, line, t)
 }
 
+// A fault is told of the argument behind those before it.
+fn numbered(before: usize, r: Result<Taken, Fault>) -> Result<Taken, LineFault>
+    ensures { result ≡ numbered_of before r }
+{
+    r.map_err(|e| LineFault::Bad(page::after(before), e))
+}
+
 // Takes one argument of a form.
-fn argument(form: u8, line: &[u8], t: Taken, numbers: &mut [u64], bytes: &mut [u8]) -> Step
+fn argument(
+    form: u8,
+    line: &[u8],
+    t: Taken,
+    numbers: &mut [u64],
+    bytes: &mut [u8],
+) -> Result<Taken, Fault>
     ensures { leaves result numbers.new bytes.new ≡ argument_taken form line.now t numbers.old bytes.old }
 {
     if form == b'-' {
-        return Step::Good(t);
+        return Ok(t);
     }
     let w = script::next_word(line, t.at);
     if !has(w) {
-        return Step::Faulty(Fault::Missing);
+        return Err(Fault::Missing);
     }
     let text = script::letters(line, w);
     if form == b'b' {
@@ -156,6 +178,7 @@ fn argument(form: u8, line: &[u8], t: Taken, numbers: &mut [u64], bytes: &mut [u
 }
 
 // The largest number of a form: a channel, a two-byte count, or how much there is to be lent.
+#[tactic(auto, unfolding(crate::specs::Arguments::most_of))]
 fn most(form: u8) -> usize
     ensures { result ≡ most_of form }
 {
@@ -175,40 +198,38 @@ fn most(form: u8) -> usize
 }
 
 // Takes bytes that end at a place of the line.
-fn some_bytes(text: &[u8], end: usize, t: Taken, bytes: &mut [u8]) -> Step
+fn some_bytes(text: &[u8], end: usize, t: Taken, bytes: &mut [u8]) -> Result<Taken, Fault>
     ensures { (ns : List ℕ) → leaves result ns bytes.new ≡ bytes_taken end t ns bytes.old (bytes_of (length bytes.old) text.now) }
 {
-    match script::bytes_of(text, bytes) {
-        Bytes::NotBytes => Step::Faulty(Fault::NotBytes),
-        Bytes::TooMany => Step::Faulty(Fault::TooMany),
-        Bytes::To(n) => Step::Good(Taken {
-            at: end,
-            count: page::after(t.count),
-            numbers: t.numbers,
-            bytes: n,
-        }),
-    }
+    let n = script::bytes_of(text, bytes)?;
+    Ok(Taken {
+        at: end,
+        count: page::after(t.count),
+        bytes: n,
+        ..t
+    })
 }
 
 // Takes a number that ends at a place of the line.
-fn one_number(text: &[u8], most: usize, end: usize, t: Taken, numbers: &mut [u64]) -> Step
+fn one_number(
+    text: &[u8],
+    most: usize,
+    end: usize,
+    t: Taken,
+    numbers: &mut [u64],
+) -> Result<Taken, Fault>
     ensures { (bs : List ℕ) → leaves result numbers.new bs ≡ number_taken most end t numbers.old bs (number_of text.now) }
 {
-    match script::number_of(text) {
-        Number::NotANumber => Step::Faulty(Fault::NotANumber),
-        Number::TooLarge => Step::Faulty(Fault::TooLarge),
-        Number::Value(v) => {
-            if (most as u64) < v {
-                return Step::Faulty(Fault::TooLarge);
-            }
-            Step::Good(Taken {
-                at: end,
-                count: page::after(t.count),
-                numbers: put(numbers, t.numbers, v),
-                bytes: t.bytes,
-            })
-        }
+    let v = script::number_of(text)?;
+    if (most as u64) < v {
+        return Err(Fault::TooLarge);
     }
+    Ok(Taken {
+        at: end,
+        count: page::after(t.count),
+        numbers: put(numbers, t.numbers, v),
+        ..t
+    })
 }
 
 // Sets a word down in a table that has room for it, and answers the place after it.
@@ -227,57 +248,66 @@ fn further(k: usize, line: &[u8], first: Taken, numbers: &mut [u64]) -> Read
     ensures { (bs : List ℕ) → leaves result numbers.new bs ≡ further_taken MORE k line.now first numbers.old bs }
 {
     let mut t = first;
-    let mut left = MORE;
-    while 0 < left {
+    for _ in 0..MORE {
         let w = script::next_word(line, t.at);
         if !has(w) {
-            return Read::Call(k, t.numbers, t.bytes);
+            return Ok(called(k, t));
         }
-        let s = one_number(script::letters(line, w), usize::MAX, w.end, t, numbers);
-        match s {
-            Step::Good(next) => t = next,
-            Step::Faulty(e) => return Read::Bad(page::after(t.count), e),
-        }
-        left -= 1;
+        let text = script::letters(line, w);
+        t = numbered(t.count, one_number(text, usize::MAX, w.end, t, numbers))?;
     }
     ended(k, line, t)
 }
 
 // Nothing stands behind the last argument.
+#[tactic(auto, unfolding(crate::specs::Arguments::ended_of))]
 fn ended(k: usize, line: &[u8], t: Taken) -> Read
     ensures { result ≡ ended_of k line.now t }
 {
     if has(script::next_word(line, t.at)) {
-        return Read::Bad(page::after(t.count), Fault::OneTooMany);
+        return Err(LineFault::Bad(page::after(t.count), Fault::OneTooMany));
     }
-    Read::Call(k, t.numbers, t.bytes)
+    Ok(called(k, t))
+}
+
+// The k-th call, with what was taken.
+fn called(k: usize, t: Taken) -> Call
+    ensures { result ≡ called_with k t }
+{
+    Call {
+        call: k,
+        numbers: t.numbers,
+        bytes: t.bytes,
+    }
 }
 
 // Says what is wrong with a line.
+#[tactic(auto, unfolding(crate::specs::Said::bad_said))]
 pub fn bad(page: &mut [u8], at: usize, r: Read) -> usize
     ensures { sheet page.new result ≡ bad_said r (sheet page.old at) }
 {
     let a = page::text(page, at, b"bad line: ");
     match r {
-        Read::Call(_, _, _) => a,
-        Read::NoEnd => page::text(page, a, b"no such end\n"),
-        Read::NoCall => page::text(page, a, b"no such call\n"),
-        Read::Bad(k, e) => {
+        Ok(_) => a,
+        Err(LineFault::NoEnd) => page::text(page, a, b"no such end\n"),
+        Err(LineFault::NoCall) => page::text(page, a, b"no such call\n"),
+        Err(LineFault::Bad(k, e)) => {
             let b = page::line(page, a, b"argument #: ", &[k as u64]);
-            say_fault(page, b, e)
+            page::text(page, b, told(e))
         }
     }
 }
 
-fn say_fault(page: &mut [u8], at: usize, e: Fault) -> usize
-    ensures { sheet page.new result ≡ said (fault_of e) (sheet page.old at) }
+// A fault in words.
+fn told(e: Fault) -> &'static [u8]
+    ensures { result.now ≡ fault_of e }
 {
     match e {
-        Fault::Missing => page::text(page, at, b"missing\n"),
-        Fault::NotANumber => page::text(page, at, b"not a number\n"),
-        Fault::TooLarge => page::text(page, at, b"too large\n"),
-        Fault::NotBytes => page::text(page, at, b"not bytes\n"),
-        Fault::TooMany => page::text(page, at, b"too many bytes\n"),
-        Fault::OneTooMany => page::text(page, at, b"one too many\n"),
+        Fault::Missing => b"missing\n",
+        Fault::NotANumber => b"not a number\n",
+        Fault::TooLarge => b"too large\n",
+        Fault::NotBytes => b"not bytes\n",
+        Fault::TooMany => b"too many bytes\n",
+        Fault::OneTooMany => b"one too many\n",
     }
 }

@@ -5,8 +5,7 @@ use mathlib.Core.List.{List}
 use Rattle.packet_ack.specs.declared.Range.{Range}
 use Rattle.pack.specs.Round.{went_of}
 use Rattle.send_reliable.specs.declared.SendChannelReliable.{SendChannelReliable}
-use Rattle.send_unreliable.specs.Round.{RoundGives}
-use Rattle.send_unreliable.specs.declared.Round.{Round}
+use Rattle.send_unreliable.specs.Round.{Round, RoundGives}
 use Rattle.send_unreliable.specs.declared.SendChannelUnreliable.{SendChannelUnreliable}
 use Rattle.bench_calls.specs.Times.{Times, none, more, Left, Held, held, Filled, UsageLeft}
 use Rattle.bench_calls.specs.Packets.{used_of, ReadGives}

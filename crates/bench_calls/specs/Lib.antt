@@ -1,3 +1,4 @@
 pub mod Times
+pub mod Calls
 pub mod Packets
 pub mod Ends

@@ -1,5 +1,5 @@
 -- The packets that are written and read. Assumes nothing.
-use Rattle.std.specs.Prelude.{ℕ, ◌≡◌, List, length, eqb}
+use Rattle.std.specs.Prelude.{ℕ, ◌≡◌, List, length, eqb, Result}
 use Rattle.words.specs.Choice.{pick}
 use Rattle.octets.specs.Reader.{Res, ok, fault}
 use Rattle.octets.specs.Writer.{Outcome, done, refused, left}
@@ -8,7 +8,7 @@ use Rattle.packet_slice.specs.declared.Slice.{Slice}
 use Rattle.packet_ack.specs.declared.Range.{Range}
 use Rattle.packet.specs.declared.Packet.{Packet}
 use Rattle.packet.specs.declared.Packet.TheVariants.{SmallReliable, SmallUnreliable, ReliableSlice, UnreliableSlice, Ack}
-use Rattle.packet.specs.declared.Decoded.{Decoded}
+use Rattle.words.specs.declared.Refusal.{Refusal}
 use Rattle.packet.specs.Packet.{Told, decoded_of, DecodeGives}
 use Rattle.packet.specs.Write.{encoded, bytes_of}
 
@@ -53,6 +53,6 @@ pub record WriteGives (p : Packet) (ms : List ℕ) (rs : List Range) (src out ou
 
 -- a packet is read into the two tables
 pub record ReadGives (bs ms : List ℕ) (rs : List Range) (ms' : List ℕ) (rs' : List Range) (r : ℕ) : Type 0 where
-  pub decoded : Decoded
+  pub decoded : Result (Packet × ℕ) Refusal
   pub gives : DecodeGives bs ms rs ms' rs' decoded
   pub answer : r ≡ used_of (decoded_of decoded)

@@ -5,18 +5,14 @@ ghost use Rattle.std.specs.Prelude.{◌≡◌, length};
 ghost use Rattle.octets.specs.Writer.{put_of};
 ghost use Rattle.packet.specs.Packet.{decoded_of};
 ghost use Rattle.pack.specs.Round.{went_of};
-ghost use Rattle.send_reliable.specs.Sender as sr;
-ghost use Rattle.send_unreliable.specs.Sender as su;
-ghost use Rattle.receive_reliable.specs.Receive as rr;
-ghost use Rattle.receive_unreliable.specs.Receive as ru;
-ghost use Rattle.bench_calls.specs.Times.{Times, Filled};
+ghost use Rattle.bench_calls.specs.Times.{Times, Filled, held};
+ghost use Rattle.bench_calls.specs.Calls.{Steps, StepsAt, StepsAtBoth};
 ghost use Rattle.bench_calls.specs.Packets.{sample_of, written_of, used_of, WriteGives, ReadGives};
 ghost use Rattle.bench_calls.specs.Ends as ends;
 
 use channel::Settings;
-use octets::Put;
-use pack::Went;
-use packet::{Decoded, Packet};
+use pack::Written;
+use packet::Packet;
 use packet_ack::{Ack, Range};
 use packet_slice::Slice;
 use packet_small::Small;
@@ -24,7 +20,7 @@ use receive_reliable::ReceiveChannelReliable;
 use receive_unreliable::ReceiveChannelUnreliable;
 use send_reliable::SendChannelReliable;
 use send_unreliable::SendChannelUnreliable;
-use words::{LANES, MAX_MEMORY, MessageId, PIECES, SLOTS, Sequence, SliceIndex};
+use words::{LANES, MAX_MEMORY, MessageId, PIECES, Refusal, SLOTS, Sequence, SliceIndex};
 
 // Enough for everything that waits.
 const ALLOWANCE: u64 = 1_000_000;
@@ -38,7 +34,8 @@ const LARGEST: Settings = Settings {
 
 // ---- packets
 
-// A packet of each kind: the first messages or ranges of a table, or a piece of n bytes.
+// A packet of each kind: the first messages or ranges of a table, or a piece of n bytes. The kind is a number
+// since the C interface takes no enum.
 fn sample(kind: u8, count: usize, n: usize) -> Packet
     ensures { result ≡ sample_of kind count n }
 {
@@ -67,13 +64,10 @@ fn sample(kind: u8, count: usize, n: usize) -> Packet
 }
 
 // How many bytes a packet has, or 0 where it was refused.
-fn written(answer: Put) -> usize
+fn written(answer: Result<usize, Refusal>) -> usize
     ensures { result ≡ written_of (put_of answer) }
 {
-    let Put::To(n) = answer else {
-        return 0;
-    };
-    n
+    answer.unwrap_or(0)
 }
 
 #[unsafe(no_mangle)]
@@ -92,13 +86,13 @@ pub extern "C" fn bench_write(
 }
 
 // How many bytes a packet used, or 0 where it was refused.
-fn used(answer: Decoded) -> usize
+fn used(answer: Result<(Packet, usize), Refusal>) -> usize
     ensures { result ≡ used_of (decoded_of answer) }
 {
-    let Decoded::Whole(_, n) = answer else {
-        return 0;
-    };
-    n
+    match answer {
+        Ok((_, n)) => n,
+        Err(_) => 0,
+    }
 }
 
 #[unsafe(no_mangle)]
@@ -106,6 +100,56 @@ pub extern "C" fn bench_read(bytes: &[u8], messages: &mut [u64], ranges: &mut [R
     ensures { ReadGives bytes.now messages.old ranges.old messages.new ranges.new result }
 {
     used(packet::from_bytes(bytes, messages, ranges))
+}
+
+// ---- calls one after the other
+
+// So many steps from a state, each told its number. A step changes the state in place: handed over and back
+// it would be copied once more.
+fn times<S, F: Fn(&mut S, usize)>(first: S, count: usize, step: F) -> S
+    requires { F.IsAlwaysCallable step }
+    ensures { Times (Steps F.Fn step) count first result }
+{
+    let mut state = first;
+    for k in 0..count {
+        step(&mut state, k);
+    }
+    state
+}
+
+// The same, where each step is lent a store.
+fn times_at<S, F: Fn(&mut S, usize, &mut [u8])>(
+    first: S,
+    count: usize,
+    store: &mut [u8],
+    step: F,
+) -> S
+    requires { F.IsAlwaysCallable step }
+    ensures { Times (StepsAt F.Fn step) count (first, store.old) (result, store.new) }
+{
+    let mut state = first;
+    for k in 0..count {
+        step(&mut state, k, store);
+    }
+    state
+}
+
+// The same, where each step is lent two stores.
+fn times_at_both<S, F: Fn(&mut S, usize, &mut [u8], &mut [u8])>(
+    first: S,
+    count: usize,
+    small: &mut [u8],
+    lanes: &mut [u8],
+    step: F,
+) -> S
+    requires { F.IsAlwaysCallable step }
+    ensures { Times (StepsAtBoth F.Fn step) count (held first small.old lanes.old) (held result small.new lanes.new) }
+{
+    let mut state = first;
+    for k in 0..count {
+        step(&mut state, k, small, lanes);
+    }
+    state
 }
 
 // ---- the reliable sender
@@ -117,47 +161,32 @@ fn sr_queued(
     small: &mut [u8],
     lanes: &mut [u8],
 ) -> SendChannelReliable
-    ensures { Filled ends.SrNew (ends.SrQueues message.now) count small.old lanes.old small.new lanes.new result × sr.Valid result }
+    ensures { Filled ends.SrNew (ends.SrQueues message.now) count small.old lanes.old small.new lanes.new result }
 {
     let made = SendChannelReliable::new(0, LARGEST, 0);
-    let mut state = made.state;
-    let mut i = 0;
-    while i < count {
-        let queued = state.send_message(message, small, lanes);
-        state = queued.state;
-        i += 1;
-    }
-    state
+    times_at_both(made.state, count, small, lanes, |s, _, small, lanes| {
+        *s = s.send_message(message, small, lanes).state
+    })
 }
 
 // Acknowledges the first messages.
 fn sr_acked(first: SendChannelReliable, count: usize) -> SendChannelReliable
-    requires { sr.Valid first }
-    ensures { Times ends.SrAcks count first result × sr.Valid result }
+    ensures { Times ends.SrAcks count first result }
 {
-    let mut state = first;
-    let mut i = 0;
-    while i < count {
-        let acked = state.process_message_ack(MessageId(i as u64));
-        state = acked.state;
-        i += 1;
-    }
-    state
+    times(first, count, |s, k| {
+        *s = s.process_message_ack(MessageId(k as u64)).state
+    })
 }
 
 // Acknowledges the first pieces of message 0.
 fn sr_acked_pieces(first: SendChannelReliable, count: usize) -> SendChannelReliable
-    requires { sr.Valid first }
-    ensures { Times ends.SrAcksPiece count first result × sr.Valid result }
+    ensures { Times ends.SrAcksPiece count first result }
 {
-    let mut state = first;
-    let mut i = 0;
-    while i < count {
-        let acked = state.process_slice_message_ack(MessageId(0), SliceIndex(i as u64));
-        state = acked.state;
-        i += 1;
-    }
-    state
+    times(first, count, |s, k| {
+        *s = s
+            .process_slice_message_ack(MessageId(0), SliceIndex(k as u64))
+            .state
+    })
 }
 
 #[unsafe(no_mangle)]
@@ -190,16 +219,17 @@ pub extern "C" fn bench_sr_pieces(
 }
 
 // How many packets a round had.
-fn packets_of(answer: Went) -> usize
+fn packets_of(answer: Result<Written, Refusal>) -> usize
     ensures { result ≡ ends.packets_said (went_of answer) }
 {
-    let Went::Sent(written) = answer else {
-        return 0;
-    };
-    written.packets
+    match answer {
+        Ok(written) => written.packets,
+        Err(_) => 0,
+    }
 }
 
 // Sends all that waits so many times, and answers how many packets the last round had.
+// A loop of its own: no other step is lent a table of words, and answers a number beside the state.
 fn sr_sent(
     first: SendChannelReliable,
     rounds: usize,
@@ -208,18 +238,14 @@ fn sr_sent(
     out: &mut [u8],
     table: &mut [u64],
 ) -> usize
-    requires { sr.Valid first }
     ensures { ends.SrSent small.now lanes.now rounds first out.old table.old out.new table.new result }
 {
     let mut state = first;
     let mut packets = 0;
-    let mut i = 0;
-    while i < rounds {
+    for _ in 0..rounds {
         let round = state.get_packets_to_send(Sequence(0), 0, ALLOWANCE, small, lanes, out, table);
-        let answer = round.answer;
-        packets = packets_of(answer);
+        packets = packets_of(round.answer);
         state = round.state;
-        i += 1;
     }
     packets
 }
@@ -249,17 +275,12 @@ fn su_queued(
     small: &mut [u8],
     lanes: &mut [u8],
 ) -> SendChannelUnreliable
-    ensures { Filled ends.SuNew (ends.SuQueues message.now) count small.old lanes.old small.new lanes.new result × su.Valid result }
+    ensures { Filled ends.SuNew (ends.SuQueues message.now) count small.old lanes.old small.new lanes.new result }
 {
     let made = SendChannelUnreliable::new(0, LARGEST);
-    let mut state = made.state;
-    let mut i = 0;
-    while i < count {
-        let queued = state.send_message(message, small, lanes);
-        state = queued.state;
-        i += 1;
-    }
-    state
+    times_at_both(made.state, count, small, lanes, |s, _, small, lanes| {
+        *s = s.send_message(message, small, lanes).state
+    })
 }
 
 #[unsafe(no_mangle)]
@@ -301,17 +322,14 @@ fn rr_received(
     small: &mut [u8],
     lanes: &[u8],
 ) -> ReceiveChannelReliable
-    ensures { Filled ends.RrNew (ends.RrHears message.now) count small.old lanes.now small.new lanes.now result × rr.Valid result }
+    ensures { Filled ends.RrNew (ends.RrHears message.now) count small.old lanes.now small.new lanes.now result }
 {
     let made = ReceiveChannelReliable::new(LARGEST);
-    let mut state = made.state;
-    let mut i = 0;
-    while i < count {
-        let arrived = state.process_message(MessageId(i as u64), message, small, lanes);
-        state = arrived.state;
-        i += 1;
-    }
-    state
+    times_at(made.state, count, small, |s, k, small| {
+        *s = s
+            .process_message(MessageId(k as u64), message, small, lanes)
+            .state
+    })
 }
 
 // A receiver that all pieces of message 0 came to, each with the same bytes.
@@ -321,34 +339,22 @@ fn rr_collected(
     small: &[u8],
     lanes: &mut [u8],
 ) -> ReceiveChannelReliable
-    ensures { Filled ends.RrNew (ends.RrCollects count payload.now) count small.now lanes.old small.now lanes.new result × rr.Valid result }
+    ensures { Filled ends.RrNew (ends.RrCollects count payload.now) count small.now lanes.old small.now lanes.new result }
 {
     let made = ReceiveChannelReliable::new(LARGEST);
-    let mut state = made.state;
-    let num = count as u64;
-    let mut i = 0;
-    while i < count {
-        let index = SliceIndex(i as u64);
-        let arrived = state.process_slice(MessageId(0), index, num, payload, small, lanes);
-        state = arrived.state;
-        i += 1;
-    }
-    state
+    times_at(made.state, count, lanes, |s, k, lanes| {
+        let index = SliceIndex(k as u64);
+        *s = s
+            .process_slice(MessageId(0), index, count as u64, payload, small, lanes)
+            .state
+    })
 }
 
 // Takes so many messages out.
 fn rr_taken(first: ReceiveChannelReliable, count: usize) -> ReceiveChannelReliable
-    requires { rr.Valid first }
-    ensures { Times ends.RrTakes count first result × rr.Valid result }
+    ensures { Times ends.RrTakes count first result }
 {
-    let mut state = first;
-    let mut i = 0;
-    while i < count {
-        let received = state.receive_message();
-        state = received.state;
-        i += 1;
-    }
-    state
+    times(first, count, |s, _| *s = s.receive_message().state)
 }
 
 #[unsafe(no_mangle)]
@@ -390,17 +396,12 @@ fn ru_received(
     small: &mut [u8],
     lanes: &[u8],
 ) -> ReceiveChannelUnreliable
-    ensures { Filled ends.RuNew (ends.RuHears message.now) count small.old lanes.now small.new lanes.now result × ru.Valid result }
+    ensures { Filled ends.RuNew (ends.RuHears message.now) count small.old lanes.now small.new lanes.now result }
 {
     let made = ReceiveChannelUnreliable::new(LARGEST);
-    let mut state = made.state;
-    let mut i = 0;
-    while i < count {
-        let arrived = state.process_message(message, small, lanes);
-        state = arrived.state;
-        i += 1;
-    }
-    state
+    times_at(made.state, count, small, |s, _, small| {
+        *s = s.process_message(message, small, lanes).state
+    })
 }
 
 // A receiver that all pieces of message 0 came to, each with the same bytes.
@@ -410,34 +411,22 @@ fn ru_collected(
     small: &[u8],
     lanes: &mut [u8],
 ) -> ReceiveChannelUnreliable
-    ensures { Filled ends.RuNew (ends.RuCollects count payload.now) count small.now lanes.old small.now lanes.new result × ru.Valid result }
+    ensures { Filled ends.RuNew (ends.RuCollects count payload.now) count small.now lanes.old small.now lanes.new result }
 {
     let made = ReceiveChannelUnreliable::new(LARGEST);
-    let mut state = made.state;
-    let num = count as u64;
-    let mut i = 0;
-    while i < count {
-        let index = SliceIndex(i as u64);
-        let arrived = state.process_slice(MessageId(0), index, num, payload, 0, small, lanes);
-        state = arrived.state;
-        i += 1;
-    }
-    state
+    times_at(made.state, count, lanes, |s, k, lanes| {
+        let index = SliceIndex(k as u64);
+        *s = s
+            .process_slice(MessageId(0), index, count as u64, payload, 0, small, lanes)
+            .state
+    })
 }
 
 // Takes so many messages out.
 fn ru_taken(first: ReceiveChannelUnreliable, count: usize) -> ReceiveChannelUnreliable
-    requires { ru.Valid first }
-    ensures { Times ends.RuTakes count first result × ru.Valid result }
+    ensures { Times ends.RuTakes count first result }
 {
-    let mut state = first;
-    let mut i = 0;
-    while i < count {
-        let received = state.receive_message();
-        state = received.state;
-        i += 1;
-    }
-    state
+    times(first, count, |s, _| *s = s.receive_message().state)
 }
 
 #[unsafe(no_mangle)]

@@ -16,7 +16,7 @@ use Rattle.words.proofs.Lists.{none-refused}
 use Rattle.words.proofs.Unique.{numbered-above}
 use Rattle.channel.specs.Settings.{settings_refusal, SettledGives, Good, least_settings, small_len_of, lane_len_of, lanes_len_of, stores_hold_of}
 use Rattle.channel.specs.declared.Settings.{Settings}
-use Rattle.channel.specs.declared.Setup.TheVariants.{Ready, Refused}
+use Rattle.std.specs.Prelude.{Ok, Err}
 
 pub good : (s : Settings) → settings_refusal s ≡ 0 → Good s
 unfolding settings_refusal All
@@ -47,10 +47,10 @@ least-good = record { slots-one = omega arith; slots-most = omega arith; lanes-o
 
 -- what is settled, by the judgement
 module _ (s : Settings) where
-  pub settled-ready : settings_refusal s ≡ 0 → SettledGives s (record { answer = Ready; settings = s })
+  pub settled-ready : settings_refusal s ≡ 0 → SettledGives s (record { answer = Ok tt; settings = s })
   settled-ready e = record { number = sym e; settings = rw e; good = good s e }
 
-  pub settled-refused : (e : Refusal) → settings_refusal s ≡ number_of e → SettledGives s (record { answer = Refused e; settings = least_settings })
+  pub settled-refused : (e : Refusal) → settings_refusal s ≡ number_of e → SettledGives s (record { answer = Err e; settings = least_settings })
   settled-refused e h = record { number = sym h; settings = rw (h, numbered-above e); good = least-good }
 
 pub lane-most : (s : Settings) → Good s → lane_len_of s ≤ PIECES * SLICE_SIZE

@@ -1,2 +1,3 @@
 pub mod Settings
 pub mod Find
+pub mod Place

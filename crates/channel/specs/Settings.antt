@@ -1,12 +1,11 @@
 -- Settings of a channel end and the two stores that it asks for. Document 01, "Sizes and settings". Assumes nothing.
-use Rattle.std.specs.Prelude.{ℕ, ◌*◌, ◌≤◌, ◌≡◌, Bool, false, [], ◌∷◌, ltb, leb, eqb}
+use Rattle.std.specs.Prelude.{ℕ, ◌*◌, ◌≤◌, ◌≡◌, Bool, false, [], ◌∷◌, ltb, leb, eqb, Result, Ok, Err}
 use Rattle.words.specs.Sizes.{SLICE_SIZE, SLOTS, LANES, PIECES, MAX_MEMORY}
 use Rattle.words.specs.Choice.{pick, refusal}
 use Rattle.words.specs.Refusal.{number_of}
+use Rattle.words.specs.declared.Refusal.{Refusal}
 use Rattle.channel.specs.declared.Settings.{Settings}
-use Rattle.channel.specs.declared.Setup.{Setup}
 use Rattle.channel.specs.declared.Settled.{Settled}
-use Rattle.channel.specs.declared.Setup.TheVariants.{Ready, Refused}
 
 -- 9 outside the ranges: slots 1 to 64, lanes 1 to 4, pieces 1 to 40, memory maximum 0 to 1,000,000
 unfoldable pub settings_refusal : Settings → ℕ
@@ -22,9 +21,9 @@ settings_refusal s =
     )
 
 -- the refusal's number, 0 for none
-abbrev pub setup_number : Setup → ℕ
-setup_number Ready = 0
-setup_number (Refused e) = number_of e
+abbrev pub setup_number : Result (Unit {0}) Refusal → ℕ
+setup_number (Ok done) = 0
+setup_number (Err e) = number_of e
 
 -- settings that were accepted
 pub record Good (s : Settings) : Type 0 where

@@ -21,7 +21,7 @@ use Rattle.slice_constructor.proofs.Whole.{each-whole}
 use Rattle.receive_reliable.specs.Receive as r
 use Rattle.receive_reliable.specs.Receive.{lane_of, in_cell_of, in_lane_of, is_held, constructor_at}
 use Rattle.receive_reliable.specs.declared.ReceiveChannelReliable.{ReceiveChannelReliable}
-use Rattle.receive_reliable.specs.declared.Store.{Store}
+use Rattle.channel.specs.declared.Store.{Store}
 use Rattle.receive_reliable.proofs.Spots.{lane_here}
 use Rattle.send_reliable.specs.declared.Kind.{Kind}
 use Rattle.send_reliable.specs.declared.Kind.TheVariants.{Small, Sliced}

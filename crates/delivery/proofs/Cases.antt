@@ -9,12 +9,11 @@ use Rattle.words.specs.Sizes.{LIMIT}
 use Rattle.words.specs.Pieces.{pieces_of}
 use Rattle.words.proofs.Tables.{pick-cases}
 use Rattle.channel.specs.Settings.{small_len_of, lanes_len_of}
-use Rattle.send_reliable.specs.declared.Sending.{Sending}
 use Rattle.send_reliable.specs.declared.Kind.{Kind}
 use Rattle.send_reliable.specs.declared.Kind.TheVariants.{Small, Sliced}
 use Rattle.send_reliable.specs.declared.Row.{Row}
 use Rattle.send_reliable.specs.declared.SendChannelReliable.{SendChannelReliable}
-use Rattle.send_reliable.specs.Sender.{kind_of, no_row, piece_at, Valid}
+use Rattle.send_reliable.specs.Sender.{Sending, kind_of, no_row, piece_at, Valid}
 use Rattle.send_reliable.specs.Queue.{Spot, cell, lane, refused, spot_of}
 use Rattle.send_reliable.specs.Ack.{row_of, without, After, ack_row, small_kind, ack_small, marked, with_ack, piece_kind_of, ack_piece}
 use Rattle.send_reliable.proofs.Valid.{CellFree, LaneFree}

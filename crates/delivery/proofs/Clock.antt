@@ -16,15 +16,14 @@ use Rattle.words.proofs.Entries.{all_set, all-splice, all_replicate}
 use Rattle.words.proofs.Tables.{pick-cases}
 use Rattle.channel.specs.declared.Settings.{Settings}
 use Rattle.channel.proofs.Good.{good}
-use Rattle.send_reliable.specs.declared.Sent.{Sent}
-use Rattle.send_reliable.specs.declared.Sent.TheVariants.{Never, At}
+use Rattle.std.specs.Prelude.{None, Some}
 use Rattle.send_reliable.specs.declared.Row.{Row}
 use Rattle.send_reliable.specs.declared.SendChannelReliable.{SendChannelReliable}
 use Rattle.send_reliable.specs.Sender.{ROWS, new_of, no_row, no_piece, Valid}
 use Rattle.send_reliable.specs.Queue.{Spot, spot_of, add_small, add_sliced, state_at}
 use Rattle.send_reliable.specs.Ack.{row_of, closed, without, marked}
 use Rattle.send_reliable.specs.Round.{state_after}
-use Rattle.delivery.specs.World.{Bytes, Part, whole, piece, World, Setup, Accepted, new, Event, queues, rounds, arrives, looks, takes, hears, given_now, goes, queueing, sending, arriving, taking, hearing, ack_of, step, run}
+use Rattle.delivery.specs.World.{Sent, Bytes, Part, whole, piece, World, Setup, Accepted, new, Event, queues, rounds, arrives, looks, takes, hears, given_now, goes, queueing, sending, arriving, taking, hearing, ack_of, step, run}
 use Rattle.send_reliable.proofs.Valid.{new-valid}
 use Rattle.delivery.proofs.Cases.{spot-cases, found, small_cases, piece-cases}
 use Rattle.delivery.proofs.Keeps.{queue-valid, small-valid, piece-valid, round-valid}
@@ -41,7 +40,7 @@ all_closed P rows k n z a =
     (all_drop P (k + (n - 1 - k)) rows a))
     z
 
-clock-new : (channel : ℕ) (st : Settings) (resend : ℕ) → Clocked Never (new_of channel st resend)
+clock-new : (channel : ℕ) (st : Settings) (resend : ℕ) → Clocked None (new_of channel st resend)
 unfolding new_of
 clock-new channel st resend = (all_replicate UnsentRow ROWS no_row refl, all_replicate UnsentPiece (LANES * PIECES) no_piece refl)
 
@@ -52,8 +51,8 @@ module _ (last : Sent) (s : SendChannelReliable) where
   clock-keeps s' e f c = at last c
     where
       at : (x : Sent) → Clocked x s → Clocked x s'
-      at Never c = f c.0 c.1
-      at (At t) c = c ∙ sym e
+      at None c = f c.0 c.1
+      at (Some t) c = c ∙ sym e
 
   clock-queue : Valid s → (n small lanes : ℕ) → Clocked last s → Clocked last (state_at s n (spot_of s n small lanes))
   unfolding add_small add_sliced

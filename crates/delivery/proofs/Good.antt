@@ -26,7 +26,8 @@ use Rattle.send_reliable.specs.declared.SendChannelReliable.{SendChannelReliable
 use Rattle.delivery.specs.World.{Bytes, Part, whole, piece, Handed, message, slice, Receiving, World, Setup, Accepted, new, Event, queues, rounds, arrives, looks, takes, hears, given_now, goes, spot_now, queued_at, queueing, written, sending, handed, noting, fault_of, read_with, arriving, part_now, out_at, taking, hearing, step, run}
 use Rattle.delivery.specs.Window.{sent_by}
 use Rattle.delivery.proofs.Turn.{part_of, parts_in, all_parts}
-use Rattle.delivery.proofs.Lists.{append-nil, none≢some, at_more, take_next, take_more}
+use Rattle.std.proofs.lemmas.List.{append-nil, take-append-le}
+use Rattle.delivery.proofs.Lists.{none≢some, at_more, take_next}
 use Rattle.delivery.proofs.Sender.{round-judged}
 use Rattle.delivery.proofs.Keeps.{round_room}
 use Rattle.delivery.proofs.Clock.{SenderGood, good_new, good-step}
@@ -181,7 +182,7 @@ queue-good msg w g =
       wire = rw m.1 (all_map (WireHas w.queued) (WireHas (w.queued ++ m.0)) (wire-more w.queued m.0) w.wire g.wire);
       received = rw m.1 (has_more w.queued m.0 w.receiver.state w.receiver.small w.receiver.lanes g.received);
       oldest = g.oldest;
-      prefix = rw m.1 (g.prefix ∙ sym (take_more (length w.out) w.queued m.0 (out-low w g)));
+      prefix = rw m.1 (g.prefix ∙ sym (take-append-le (length w.out) w.queued m.0 (out-low w g)));
     }
 
 round-good : (seq now allowance : ℕ) (out : Bytes) (table : List ℕ) (w : World) → Good w → Good (step (rounds seq now allowance out table) w)

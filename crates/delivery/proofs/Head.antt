@@ -16,13 +16,12 @@ use Rattle.words.specs.Pieces.{pieces_of}
 use Rattle.words.specs.Lists.{first, total}
 use Rattle.words.proofs.Lists.{all-at}
 use Rattle.words.proofs.Tables.{by-test, pick-cases, by_place}
-use Rattle.send_reliable.specs.declared.Sending.{Sending}
 use Rattle.send_reliable.specs.declared.Kind.{Kind}
 use Rattle.send_reliable.specs.declared.Kind.TheVariants.{Small, Sliced}
 use Rattle.send_reliable.specs.declared.Row.{Row}
 use Rattle.send_reliable.specs.declared.Piece.{Piece}
 use Rattle.send_reliable.specs.declared.SendChannelReliable.{SendChannelReliable}
-use Rattle.send_reliable.specs.Sender.{kind_of, as_row, no_row, no_piece, live, piece_at, acked_pieces, PlacedKind, Valid}
+use Rattle.send_reliable.specs.Sender.{Sending, kind_of, as_row, no_row, no_piece, live, piece_at, acked_pieces, PlacedKind, Valid}
 use Rattle.send_reliable.specs.Queue.{Spot, spot_of, add_small, add_sliced, state_at}
 use Rattle.send_reliable.specs.Ack.{has_id, row_of, closed, without, ack_small, marked, ack_piece}
 use Rattle.send_reliable.proofs.Valid.{rows-room}

@@ -26,7 +26,8 @@ use Rattle.send_reliable.specs.declared.Kind.TheVariants.{Small, Sliced}
 use Rattle.send_reliable.specs.declared.Row.{Row}
 use Rattle.send_reliable.specs.declared.SendChannelReliable.{SendChannelReliable}
 use Rattle.send_reliable.specs.Sender.{last_sent_of, kind_of, no_row, no_piece, live, PlacedKind, Placed, Valid}
-use Rattle.send_reliable.specs.Select.{Visit, up_from, row_visits, visits_from, due, Chosen, visit_kind, visit, select}
+use Rattle.send_reliable.specs.declared.Visit.{Visit}
+use Rattle.send_reliable.specs.Select.{up_from, row_visits, visits_from, due, Chosen, visit_kind, visit, select}
 use Rattle.send_reliable.specs.Round.{Given, chosen}
 use Rattle.delivery.specs.World.{Bytes}
 use Rattle.delivery.proofs.Walk.{Told, bare_kind, bare, kept-visit, up-low}

@@ -8,7 +8,7 @@ use native.Mathlib.Omega.{arith}
 use native.Mathlib.Nat.{add-suc}
 use lib.Dec.{eqb}
 use lib.ListN.{length, get_or, get_elem?, set, take, drop}
-use lib.Seq.{get_or-set_other, get_or-take, get_or-drop, take-append-le, take-suc-set, drop-set-add}
+use lib.Seq.{get_or-set_other, get_or-take, get_or-drop, take-suc-set, drop-set-add}
 use mathlib.Core.Option.{Option, none, some}
 use borrow.Author.Tests.{eqb-true}
 use Rattle.words.specs.Choice.{pick}
@@ -30,10 +30,6 @@ places-apart n m k less = rw suc-mul at (mul-le-mul_right n less)
 -- ---- membership
 
 module _ {A : Type 0} where
-  pub append-nil : (xs : List A) → xs ++ [] ≡ xs
-  append-nil [] = refl
-  append-nil (x ∷ xs) = ap (λ (r : List A). x ∷ r) (append-nil xs)
-
   pub in_left : {x : A} {xs : List A} (ys : List A) → In x xs → In x (xs ++ ys)
   in_left ys (here e) = here e
   in_left ys (there h) = there (in_left ys h)
@@ -188,9 +184,6 @@ module _ {A : Type 0} where
   take_next (y ∷ xs) (suc k) e =
       let z : suc k + 1 ≡ suc (k + 1) = omega arith in
       ap (λ (n : ℕ). take n (y ∷ xs)) z ∙ ap (λ (l : List A). y ∷ l) (take_next xs k e)
-
-  pub take_more : (n : ℕ) (xs ys : List A) → n ≤ length xs → take n (xs ++ ys) ≡ take n xs
-  take_more n xs ys h = take-append-le n xs ys h
 
   -- a splice behind the first k
   pub drop-splice-add : (k at : ℕ) (bs s : List A) → drop k (splice (k + at) bs s) ≡ splice at bs (drop k s)

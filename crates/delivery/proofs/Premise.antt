@@ -23,7 +23,8 @@ use Rattle.send_reliable.specs.Queue.{Spot, cell, lane, spot_of, state_at, add_s
 use Rattle.send_reliable.specs.Round.{state_after}
 use Rattle.delivery.specs.World.{Bytes, Part, whole, piece, World, Setup, new, Event, queues, rounds, arrives, looks, takes, hears, given_now, goes, spot_now, queued_at, queueing, sending, handed, noting, fault_of, read_with, arriving, taking, ack_of, hearing, step, run}
 use Rattle.delivery.specs.Statements.{Fits, TabledNow, Tabled, PremiseHolds}
-use Rattle.delivery.proofs.Lists.{append-nil, at_low, at-get_or}
+use Rattle.std.proofs.lemmas.List.{append-nil}
+use Rattle.delivery.proofs.Lists.{at_low, at-get_or}
 use Rattle.delivery.proofs.Good.{WireHas, Good, queued-more, wire-sound, wire-at, new-good, step-good, arrive-queued}
 use Rattle.delivery.proofs.Counts.{charge_of, small_of, sliced_of, Counts, counts-more, take-counts}
 use Rattle.delivery.proofs.Unrefused.{Roomy, all-counts, all-const, all-unrefused}

@@ -34,7 +34,7 @@ use Rattle.pack.specs.Laws.{Lie, one_lies}
 use Rattle.pack.proofs.Theorems.{packets-lie}
 use Rattle.delivery.specs.World.{Bytes, Part, whole, piece, Handed, message, slice, message_in, handed_by, handed, cut}
 use Rattle.delivery.specs.Window.{parts_said}
-use Rattle.delivery.proofs.Lists.{append-nil}
+use Rattle.std.proofs.lemmas.List.{append-nil}
 use Rattle.delivery.proofs.Items.{SmallHas, PackHas, FewIn}
 
 -- ---- what a packet hands over

@@ -29,8 +29,8 @@ use Rattle.receive_reliable.specs.Receive as r
 use Rattle.receive_reliable.specs.Receive.{new_of, cell_of, lane_of, in_cell_of, in_lane_of, ignores, constructor_at, is_whole, lane_charge, kept, MessageSpot, cell, nowhere, message_spot, message_state, message_bytes, with_message_of, SliceSpot, opened, fresh, nothing, slice_spot, slice_state, slice_bytes, with_lane_of, without_cell, without_lane, after_take, Valid}
 use Rattle.receive_reliable.specs.Steps.{Fits, lane_spot, piece_refusal}
 use Rattle.receive_reliable.specs.declared.ReceiveChannelReliable.{ReceiveChannelReliable}
-use Rattle.receive_reliable.specs.declared.Store.{Store}
-use Rattle.receive_reliable.specs.declared.Store.TheVariants.{Small, Lanes}
+use Rattle.channel.specs.declared.Store.{Store}
+use Rattle.channel.specs.declared.Store.TheVariants.{Small, Lanes}
 use Rattle.receive_reliable.proofs.Valid.{new-valid, message-valid, lane-valid, without-cell-valid, without-lane-valid}
 use Rattle.receive_reliable.proofs.Spots.{cell-here, lane_here, Entered, spot-cell, open-fits, fresh-fits}
 use Rattle.receive_reliable.proofs.Gives.{fits-taken}

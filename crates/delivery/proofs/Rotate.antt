@@ -14,7 +14,8 @@ use Rattle.words.specs.Sizes.{SLICE_SIZE}
 use Rattle.words.specs.Choice.{pick}
 use Rattle.words.proofs.Tables.{by-test, pick-cases}
 use Rattle.delivery.specs.Window.{In, open_from}
-use Rattle.delivery.proofs.Lists.{append-nil, in_left, in_right, in-cases, rem, rem-append}
+use Rattle.std.proofs.lemmas.List.{append-nil}
+use Rattle.delivery.proofs.Lists.{in_left, in_right, in-cases, rem, rem-append}
 
 -- ---- the indices of a range that are not acknowledged
 

@@ -20,7 +20,8 @@ use Rattle.send_reliable.specs.Round.{Given, packs, state_after}
 use Rattle.delivery.specs.World.{Bytes, Part, whole, piece, World, new, Event, queues, rounds, arrives, looks, takes, hears, given_now, goes, written, queueing, sending, arriving, taking, hearing, ack_of, step}
 use Rattle.delivery.specs.Window.{In, here, there, open_from, acked_at, open_of, sent_by, sent_now, sent_in, acked_now, acked_in, round_now, rounds_in, Spaced, SteadyNow, Steady}
 use Rattle.delivery.specs.Statements.{after, NoStarvation}
-use Rattle.delivery.proofs.Lists.{append-nil, in_left, in_right, in-cases, in-length, from-map, parted, rem, rem-append, length-rem, in-rem}
+use Rattle.std.proofs.lemmas.List.{append-nil}
+use Rattle.delivery.proofs.Lists.{in_left, in_right, in-cases, in-length, from-map, parted, rem, rem-append, length-rem, in-rem}
 use Rattle.delivery.proofs.Rotate.{queue-all, Rotates}
 use Rattle.delivery.proofs.Turn.{all_parts, queue_kind, queue_of, part_kind_of, part_at, head-placed, Turns, turns}
 use Rattle.delivery.proofs.Head.{Stays, Loses, queue-stays, small-heard, piece-heard}

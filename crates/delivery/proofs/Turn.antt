@@ -20,18 +20,17 @@ use Rattle.pack.specs.Pack.{Item, is_small, Pack, group, single, pack}
 use Rattle.pack.specs.Rows.{smalls}
 use Rattle.pack.specs.Laws.{pieces, grouped, singles}
 use Rattle.pack.proofs.Theorems.{smalls-kept, pieces_kept}
-use Rattle.send_reliable.specs.declared.Sent.{Sent}
-use Rattle.send_reliable.specs.declared.Sent.TheVariants.{Never, At}
-use Rattle.send_reliable.specs.declared.Sending.{Sending}
+use Rattle.std.specs.Prelude.{None, Some}
 use Rattle.send_reliable.specs.declared.Kind.{Kind}
 use Rattle.send_reliable.specs.declared.Kind.TheVariants.{Small, Sliced}
 use Rattle.send_reliable.specs.declared.Row.{Row}
 use Rattle.send_reliable.specs.declared.Piece.{Piece}
 use Rattle.send_reliable.specs.declared.SendChannelReliable.{SendChannelReliable}
-use Rattle.send_reliable.specs.Sender.{last_sent_of, kind_of, as_row, no_row, no_piece, live, SentBy, PlacedKind, Placed, Apart, Before, Valid}
-use Rattle.send_reliable.specs.Select.{Visit, up_from, row_visits, visits_from, due, sent_at, Chosen, visit, visit_kind, select}
+use Rattle.send_reliable.specs.Sender.{Sending, last_sent_of, kind_of, as_row, no_row, no_piece, live, SentBy, PlacedKind, Placed, Apart, Before, Valid}
+use Rattle.send_reliable.specs.declared.Visit.{Visit}
+use Rattle.send_reliable.specs.Select.{up_from, row_visits, visits_from, due, sent_at, Chosen, visit, visit_kind, select}
 use Rattle.send_reliable.specs.Round.{Given, chosen, packs, state_after}
-use Rattle.delivery.specs.World.{Part, whole, piece}
+use Rattle.delivery.specs.World.{Sent, Part, whole, piece}
 use Rattle.delivery.specs.Window.{In, here, there, acked_at, Spaced}
 use Rattle.delivery.proofs.Lists.{in_left, in_right, in-cases, in_map, all_get_d, front-head, head-front, reached-append}
 use Rattle.delivery.proofs.Rotate.{Walk, walk, Walked, walked, queue_at, Rotates, turned, queue-same}
@@ -88,38 +87,38 @@ parts-kept x is h =
 -- ---- the clock: `last` is the sender's latest time, or nothing was ever sent
 
 abbrev pub UnsentKind : Kind → Type 0
-UnsentKind (Small i t) = last_sent_of t ≡ Never
+UnsentKind (Small i t) = last_sent_of t ≡ None
 UnsentKind (Sliced l a next) = Unit
 
 abbrev pub UnsentRow : Row → Type 0
 UnsentRow r = UnsentKind (kind_of r)
 
 abbrev pub UnsentPiece : Piece → Type 0
-UnsentPiece p = last_sent_of p.sending ≡ Never
+UnsentPiece p = last_sent_of p.sending ≡ None
 
 abbrev pub Clocked : Sent → SendChannelReliable → Type 0
-Clocked Never s = All UnsentRow s.rows × All UnsentPiece s.pieces
-Clocked (At t) s = t ≡ s.latest
+Clocked None s = All UnsentRow s.rows × All UnsentPiece s.pieces
+Clocked (Some t) s = t ≡ s.latest
 
 due-old : (resend now latest : ℕ) (t : Sent) → SentBy latest t → latest + resend ≤ now → due resend now t ≡ true
-due-old resend now latest Never b h = refl
-due-old resend now latest (At t) b h = le-leb resend (now - t) (omega arith)
+due-old resend now latest None b h = refl
+due-old resend now latest (Some t) b h = le-leb resend (now - t) (omega arith)
 
-due-never : (resend now : ℕ) (t : Sent) → t ≡ Never → due resend now t ≡ true
+due-never : (resend now : ℕ) (t : Sent) → t ≡ None → due resend now t ≡ true
 due-never resend now t e = ap (due resend now) e
 
 module _ (s : SendChannelReliable) (v : Valid s) (now : ℕ) where
   pub piece-due : (last : Sent) → Clocked last s → Spaced s.resend_time last now → (p : ℕ)
       → due s.resend_time now (last_sent_of (get_or s.pieces p no_piece).sending) ≡ true
-  piece-due Never c h p = due-never s.resend_time now _ (all_get_d UnsentPiece s.pieces p no_piece c.1 refl)
-  piece-due (At t) c h p =
+  piece-due None c h p = due-never s.resend_time now _ (all_get_d UnsentPiece s.pieces p no_piece c.1 refl)
+  piece-due (Some t) c h p =
       due-old s.resend_time now s.latest (last_sent_of (get_or s.pieces p no_piece).sending)
       (all_get_d (λ (x : Piece). SentBy s.latest (last_sent_of x.sending)) s.pieces p no_piece v.pieces-sent tt) (omega arith)
 
   pub small-due : (last : Sent) → Clocked last s → Spaced s.resend_time last now → (i : ℕ) (t : Sending) → kind_of (get_or s.rows 0 no_row) ≡ Small i t
       → SentBy s.latest (last_sent_of t) → due s.resend_time now (last_sent_of t) ≡ true
-  small-due Never c h i t e b = due-never s.resend_time now _ (subst UnsentKind e (all_get_d UnsentRow s.rows 0 no_row c.0 refl))
-  small-due (At u) c h i t e b = due-old s.resend_time now s.latest (last_sent_of t) b (omega arith)
+  small-due None c h i t e b = due-never s.resend_time now _ (subst UnsentKind e (all_get_d UnsentRow s.rows 0 no_row c.0 refl))
+  small-due (Some u) c h i t e b = due-old s.resend_time now s.latest (last_sent_of t) b (omega arith)
 
 -- ---- the queue of a waiting message
 

@@ -23,8 +23,10 @@ use Rattle.send_reliable.specs.declared.Kind.TheVariants.{Small, Sliced}
 use Rattle.send_reliable.specs.declared.Row.{Row}
 use Rattle.send_reliable.specs.declared.Piece.{Piece}
 use Rattle.send_reliable.specs.Sender.{last_sent_of, kind_of, as_row, unsent, no_row, no_piece}
-use Rattle.send_reliable.specs.Select.{Visit, up_from, row_visits, visits_from, due, sent_at, Chosen, visit_piece, visit_kind, visit}
-use Rattle.delivery.proofs.Lists.{append-nil, set_keeps}
+use Rattle.send_reliable.specs.declared.Visit.{Visit}
+use Rattle.send_reliable.specs.Select.{up_from, row_visits, visits_from, due, sent_at, Chosen, visit_piece, visit_kind, visit}
+use Rattle.std.proofs.lemmas.List.{append-nil}
+use Rattle.delivery.proofs.Lists.{set_keeps}
 use Rattle.delivery.proofs.Rotate.{Walk, send_one, walk}
 
 -- ---- any visit

@@ -1,6 +1,6 @@
 -- What happens in a window of events: which pieces are sent, which are acknowledged, how many rounds are accepted and how they are spaced.
 -- Assumes nothing.
-use Rattle.std.specs.Prelude.{ℕ, zero, suc, ◌+◌, ◌≤◌, ◌≡◌, Bool, true, List, [], ◌∷◌, ◌++◌, map}
+use Rattle.std.specs.Prelude.{ℕ, zero, suc, ◌+◌, ◌≤◌, ◌≡◌, Bool, true, List, [], ◌∷◌, ◌++◌, map, None, Some}
 use Rattle.std.proofs.Math.Option.{Option, none, some}
 use Rattle.std.proofs.Math.ListN.{get_elem?}
 use Rattle.words.specs.Sizes.{SLICE_SIZE}
@@ -11,13 +11,11 @@ use Rattle.packet_small.specs.Small as small
 use Rattle.packet.specs.Packet as reader
 use Rattle.packet.specs.Packet.{small_reliable, small_unreliable, reliable_slice, unreliable_slice, ack}
 use Rattle.send_reliable.specs.Sender.{kind_of, piece_at}
-use Rattle.send_reliable.specs.declared.Sent.{Sent}
-use Rattle.send_reliable.specs.declared.Sent.TheVariants.{Never, At}
 use Rattle.send_reliable.specs.declared.Kind.{Kind}
 use Rattle.send_reliable.specs.declared.Kind.TheVariants.{Small, Sliced}
 use Rattle.send_reliable.specs.declared.Row.{Row}
 use Rattle.send_reliable.specs.declared.SendChannelReliable.{SendChannelReliable}
-use Rattle.delivery.specs.World.{Bytes, Part, whole, piece, World, Event, queues, rounds, arrives, looks, takes, hears, given_now, goes, written, step}
+use Rattle.delivery.specs.World.{Bytes, Sent, Part, whole, piece, World, Event, queues, rounds, arrives, looks, takes, hears, given_now, goes, written, step}
 
 -- an element of a list
 pub data In {A : Type 0} (x : A) : List A → Type 0 where
@@ -102,8 +100,8 @@ rounds_in (ev ∷ evs) w = round_now ev w + rounds_in evs (step ev w)
 
 -- at least the resend time after the round before, if there was one
 abbrev pub Spaced : ℕ → Sent → ℕ → Type 0
-Spaced resend Never now = Unit
-Spaced resend (At t) now = t + resend ≤ now
+Spaced resend None now = Unit
+Spaced resend (Some t) now = t + resend ≤ now
 
 abbrev pub SteadyNow : Event → World → Type 0
 SteadyNow (queues msg) w = Unit

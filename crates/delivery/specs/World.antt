@@ -1,6 +1,7 @@
 -- The world of demand 3: a reliable sender, an ordered receiver, the stores that each lends at every call, and the network between them. What
 -- each call does is what its public promise says, by the promise's own definitions. Assumes nothing.
-use Rattle.std.specs.Prelude.{ℕ, zero, suc, ◌+◌, ◌*◌, ◌<◌, ◌≡◌, List, [], ◌∷◌, ◌++◌, map, Bool, length, get_or, take, drop, eqb}
+use Rattle.std.specs.Prelude.{ℕ, zero, suc, ◌+◌, ◌*◌, ◌<◌, ◌≡◌, List, [], ◌∷◌, ◌++◌, map, Bool, length, get_or, take, drop, eqb, None, Some}
+use Rattle.std.specs.Prelude as prelude
 use Rattle.std.proofs.Math.Option.{Option, none, some}
 use Rattle.std.proofs.Math.ListN.{get_elem?}
 use Rattle.words.specs.Choice.{pick}
@@ -19,12 +20,14 @@ use Rattle.send_reliable.specs.Sender as s
 use Rattle.send_reliable.specs.Queue as q
 use Rattle.send_reliable.specs.Ack.{ack_small, ack_piece}
 use Rattle.send_reliable.specs.Round.{Given, packs, lent, refusal_of, state_after}
-use Rattle.send_reliable.specs.declared.Sent.{Sent}
-use Rattle.send_reliable.specs.declared.Sent.TheVariants.{Never, At}
 use Rattle.send_reliable.specs.declared.SendChannelReliable.{SendChannelReliable}
 
 abbrev pub Bytes : Type 0
 Bytes = List ℕ
+
+-- when something was last sent, if ever
+abbrev pub Sent : Type 0
+Sent = prelude.Option ℕ
 
 -- a piece, by its message's id and its index; a small message is one piece
 pub data Part : Type 0 where
@@ -80,7 +83,7 @@ new u =
       sender = record { state = s.new_of u.channel u.sending u.resend; small = u.sender-small; lanes = u.sender-lanes };
       receiver = record { state = r.new_of u.receiving; small = u.receiver-small; lanes = u.receiver-lanes; took = []; ignored = []; refused = [] };
       queued = [];
-      last = Never;
+      last = None;
       wire = [];
       out = [];
     }
@@ -152,7 +155,7 @@ sending g out table w =
       sender = record { state = state_after w.sender.state g; small = w.sender.small; lanes = w.sender.lanes };
       receiver = w.receiver;
       queued = w.queued;
-      last = At g.now;
+      last = Some g.now;
       wire = w.wire ++ written w.sender.state g out table;
       out = w.out;
     })

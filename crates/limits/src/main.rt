@@ -6,8 +6,7 @@
 // it wrote to, lent or not: a byte or word that should have stayed shows.
 ghost use Rattle.std.specs.Prelude.{◌≡◌, length};
 
-use octets::Put;
-use packet::{Decoded, Packet};
+use packet::Packet;
 use packet_ack::{RANGES, Range};
 use packet_small::Small;
 use words::{LIMIT, Refusal, Sequence};
@@ -32,6 +31,9 @@ const SHORTER: usize = 16_383;
 
 const PAST: usize = 16_385;
 
+// What stands in a table of ranges, which no packet of messages reads or fills.
+const NONE: Range = Range { start: 0, end: 0 };
+
 // What lent memory holds at first.
 const BYTE: u8 = 0xa5;
 
@@ -45,14 +47,14 @@ fn main() {
 // The cases of a type of packet, with the bytes that it takes for the most messages, all empty, and for a long one.
 fn kind(kind: u8, most: usize, shorter: usize, longer: usize) {
     write(kind, 0, 1, MOST_WORDS, SHORTER, shorter);
-    write(kind, 0, 1, MOST_WORDS, SHORTER, less(shorter));
+    write(kind, 0, 1, MOST_WORDS, SHORTER, shorter.saturating_sub(1));
     write(kind, 0, 1, MOST_WORDS, STORE, longer);
-    write(kind, 0, 1, MOST_WORDS, STORE, less(longer));
+    write(kind, 0, 1, MOST_WORDS, STORE, longer.saturating_sub(1));
     read(kind, most, MOST_WORDS);
-    read(kind, most, less(MOST_WORDS));
-    read(kind, less(most), MOST_WORDS);
+    read(kind, most, MOST_WORDS - 1);
+    read(kind, most.saturating_sub(1), MOST_WORDS);
     write(kind, 0, MOST, 3, 0, most);
-    write(kind, 0, MOST, 3, 0, less(most));
+    write(kind, 0, MOST, 3, 0, most.saturating_sub(1));
     more(kind);
 }
 
@@ -67,19 +69,12 @@ fn more(kind: u8) {
     write(kind, 0, MOST, 0, PAST, ROOM);
 }
 
-fn less(n: usize) -> usize {
-    if n == 0 {
-        return 0;
-    }
-    n - 1
-}
-
 // Writes a packet to so many bytes. Its table, of one message more, is lent from a word on; all is 0 but the
 // last length.
 fn write(kind: u8, sequence: u64, count: usize, from: usize, last: usize, room: usize) {
     said(
         b"write type # sequence # messages #, ",
-        &[kind as u64, sequence, count as u64],
+        &[u64::from(kind), sequence, count as u64],
     );
     let p = Small {
         sequence: Sequence(sequence),
@@ -92,10 +87,10 @@ fn write(kind: u8, sequence: u64, count: usize, from: usize, last: usize, room: 
 }
 
 fn named(kind: u8, p: Small) -> Packet {
-    if kind == 0 {
-        return Packet::SmallReliable(p);
+    match kind {
+        0 => Packet::SmallReliable(p),
+        _ => Packet::SmallUnreliable(p),
     }
-    Packet::SmallUnreliable(p)
 }
 
 fn table(v: u64) -> [u64; MORE_WORDS]
@@ -111,7 +106,9 @@ fn bytes(v: u8) -> [u8; ROOM]
 }
 
 fn put(p: Packet, from: usize, last: usize, room: usize, t: &mut [u64], out: &mut [u8]) {
-    set_last(t, last as u64);
+    if let Some(len) = t.last_mut() {
+        *len = last as u64;
+    }
     let n = page::part(room, out);
     let r = encode(p, page::words_from(t, from), &mut out[..n]);
     said(b"last # to # bytes: ", &[last as u64, room as u64]);
@@ -119,28 +116,16 @@ fn put(p: Packet, from: usize, last: usize, room: usize, t: &mut [u64], out: &mu
     said(b"; digest #\n", &[say::digest_bytes(out)]);
 }
 
-fn set_last(t: &mut [u64], v: u64) {
-    let n = t.len();
-    if 0 < n {
-        t[n - 1] = v;
-    }
-}
-
-fn encode(p: Packet, t: &[u64], out: &mut [u8]) -> Put {
+fn encode(p: Packet, t: &[u64], out: &mut [u8]) -> Result<usize, Refusal> {
     said(b"of # words, ", &[t.len() as u64]);
     let store = [b'a'; STORE];
-    packet::encode(out, p, t, no_ranges(), 0, &store)
+    packet::encode(out, p, t, [NONE; RANGES], 0, &store)
 }
 
-fn no_ranges() -> [Range; RANGES] {
-    let none = Range { start: 0, end: 0 };
-    [none; RANGES]
-}
-
-fn written(r: Put) {
+fn written(r: Result<usize, Refusal>) {
     match r {
-        Put::Refused(e) => refused(e),
-        Put::To(n) => said(b"written #", &[n as u64]),
+        Ok(n) => said(b"written #", &[n as u64]),
+        Err(e) => refused(e),
     }
 }
 
@@ -148,7 +133,7 @@ fn written(r: Put) {
 fn read(kind: u8, n: usize, words: usize) {
     said(
         b"read type # from # bytes, to # words: ",
-        &[kind as u64, n as u64, words as u64],
+        &[u64::from(kind), n as u64, words as u64],
     );
     let mut s = bytes(0);
     let mut t = table(WORD);
@@ -158,20 +143,19 @@ fn read(kind: u8, n: usize, words: usize) {
 fn get(kind: u8, n: usize, words: usize, s: &mut [u8], t: &mut [u64]) {
     say::text(s, 0, &[kind, 0, 0, 0xff, 0xff]);
     let k = page::part(n, s);
-    let m = page::words_part(words, t);
-    let r = packet::decode(&s[..k], &mut t[..m], no_ranges(), 0);
-    let d = r.answer;
-    decoded(d);
+    let m = page::part(words, t);
+    let r = packet::decode(&s[..k], &mut t[..m], [NONE; RANGES], 0);
+    decoded(r.answer);
     said(b"; digest #\n", &[say::digest_words(t)]);
 }
 
-fn decoded(d: Decoded) {
+fn decoded(d: Result<(Packet, usize), Refusal>) {
     match d {
-        Decoded::Refused(e) => refused(e),
-        Decoded::Whole(p, used) => {
+        Ok((p, used)) => {
             whole(p);
             said(b"; used #", &[used as u64]);
         }
+        Err(e) => refused(e),
     }
 }
 
@@ -187,7 +171,7 @@ fn small(name: &[u8], p: Small) {
     said(name, &[]);
     said(
         b" sequence # channel # messages #",
-        &[p.sequence.0, p.channel_id as u64, p.count as u64],
+        &[p.sequence.0, u64::from(p.channel_id), p.count as u64],
     );
 }
 

@@ -1,24 +1,15 @@
 -- Laws of the bytes that go to the front of the buffer. Assumes nothing.
-use Prim.Native.Nat.{ℕ, ◌+◌, ◌-◌, ◌≤◌, ◌<◌, min}
+use Prim.Native.Nat.{ℕ, ◌+◌, ◌-◌, ◌≤◌, min}
 use mathlib.Core.Path.{◌≡◌, refl, ap, sym, ◌∙◌}
 use mathlib.Core.Bool.{Bool, true, false}
 use borrow.Author.Tests.{leb-true, leb-false}
 use lib.Dec.{leb}
 use mathlib.Core.List.{List, [], ◌∷◌, ◌++◌}
-use native.Mathlib.Nat.{add-zero}
 use native.Mathlib.Omega.{arith}
-use lib.ListN.{length, get_or, set, take, drop, length-take, length-drop, length-set}
-use lib.Seq.{get_or-drop, take_all, length-take-le, take_at}
+use lib.ListN.{length, take, drop, length-take, length-drop}
+use lib.Seq.{paste, take_all, length-take-le, take_at}
 use Rattle.words.specs.Lists.{splice}
-use Rattle.words.proofs.Splice.{length-splice, drop-splice, splice-eq, copy-none, copy_more}
-
--- what is behind the front is as it was
-past : (bs s : List ℕ) (k : ℕ) → length bs ≤ k → get_or (splice 0 bs s) k 0 ≡ get_or s k 0
-past bs s k h =
-    let f : 0 + length bs ≤ k = omega arith in
-    let a : get_or (drop k (splice 0 bs s)) 0 0 ≡ get_or (splice 0 bs s) k 0 = rw add-zero at (get_or-drop k (splice 0 bs s) 0 0) in
-    let b : get_or (drop k s) 0 0 ≡ get_or s k 0 = rw add-zero at (get_or-drop k s 0 0) in
-    sym a ∙ ap (λ (l : List ℕ). get_or l 0 0) (drop-splice k 0 bs s f) ∙ b
+use Rattle.words.proofs.Splice.{length-splice, splice-eq}
 
 empty : (l : List ℕ) → length l ≡ 0 → l ≡ []
 empty [] e = refl
@@ -37,37 +28,22 @@ module _ (s : List ℕ) (from to : ℕ) where
   none_between : min (length s) to ≤ from → between ≡ []
   none_between h = empty between (omega (arith, length-take (to - from) (drop from s), length-drop from s))
 
-  pub front-none : min (length s) to ≤ from → (0 ≡ length between) × (0 ≤ length s) × (s ≡ splice 0 between s)
-  unfolding splice
-  front-none h = (sym (ap length (none_between h)), omega arith, ap (λ (l : List ℕ). splice 0 l s) (sym (none_between h)))
+  part-is : (t : Bool) (start end : ℕ) → leb from end ≡ t → end ≡ min (length s) to → start ≡ min from end → take (end - start) (drop start s) ≡ between
+  part-is true start end t e f =
+      let a : start ≡ from = omega (arith, leb-true from end t) in
+      rw a (cut_by (leb (to - from) (length (drop from s))) (end - from) (to - from) (drop from s) refl (omega (arith, length-drop from s)))
+  part-is false start end t e f =
+      let a : end - start ≡ 0 = omega (arith, leb-false from end t) in
+      rw a (sym (none_between (omega (arith, leb-false from end t))))
 
-  -- so many of them moved
-  pub record Moved (buf : List ℕ) (i : ℕ) : Type 0 where
-    pub kept : length buf ≡ length s
-    pub moved : buf ≡ splice 0 (take i (drop from s)) s
-
-  pub moved-start : Moved s 0
-  moved-start = record { kept = refl; moved = copy-none 0 (drop from s) s }
-
-  module _ (buf : List ℕ) (i : ℕ) (m : Moved buf i) where
-    pub moved_more : from + i < length s → Moved (set buf i (get_or buf (from + i) 0)) (i + 1)
-    moved_more h =
-        let l : i < length (drop from s) = omega (arith, length-drop from s) in
-        let k : length (take i (drop from s)) ≤ from + i = omega (arith, length-take i (drop from s)) in
-        let z : 0 + i ≡ i = omega arith in
-        let g : get_or buf (from + i) 0 ≡ get_or (drop from s) i 0 =
-        ap (λ (b : List ℕ). get_or b (from + i) 0) m.moved ∙ past (take i (drop from s)) s (from + i) k ∙ sym (get_or-drop from s i 0) in
-        record {
-          kept = length-set buf i (get_or buf (from + i) 0) ∙ m.kept;
-          moved = ap (λ (x : ℕ). set buf i x) g ∙ (rw z at (copy_more 0 (drop from s) s buf i 0 l m.moved));
-        }
-
-    pub moved_all : (n : ℕ) → n ≡ min (length s) to - from → i ≡ n → (n ≡ length between) × (n ≤ length buf) × (buf ≡ splice 0 between s)
-    moved_all n e f = (
-      omega (arith, length-take (to - from) (drop from s), length-drop from s),
-      omega (arith, m.kept),
-      m.moved ∙ ap (λ (l : List ℕ). splice 0 l s) (cut_by (leb (to - from) (length (drop from s))) i (to - from) (drop from s) refl (omega (arith, length-drop from s))),
-    )
+  -- the part that is copied there
+  pub moved : (start end : ℕ) (buf : List ℕ) → end ≡ min (length s) to → start ≡ min from end → buf ≡ paste s 0 (drop start s) (end - start)
+      → (end - start ≡ length between) × (end - start ≤ length buf) × (buf ≡ splice 0 between s)
+  moved start end buf e f h =
+      let p : take (end - start) (drop start s) ≡ between = part-is (leb from end) start end refl e f in
+      let n : end - start ≡ length between = sym (length-take-le (end - start) (drop start s) (omega (arith, length-drop start s))) ∙ ap length p in
+      let b : buf ≡ splice 0 between s = h ∙ rw (p, n) (sym (splice-eq 0 between s (omega arith))) in
+      (n, omega (arith, ap length b, length-splice 0 between s), b)
 
   -- what was read behind them leaves them as they are
   pub front_kept : (back : List ℕ) → length between ≤ length s → take (length between) (take (length between) (splice 0 between s) ++ back) ≡ between

@@ -11,28 +11,17 @@ use lib.Seq.{length-take-le}
 use Rattle.words.specs.Lists.{splice}
 use Rattle.words.proofs.Splice.{length-splice}
 use Rattle.script.specs.Words.{newline, until}
-use Rattle.lines.specs.Lines.{line_to_of, last_of, unended_of, step_at, step_of, rest_of, Refills}
+use Rattle.lines.specs.Lines.{line_to_of, last_of, unended_of, step_at, step_of, rest_of, Refills, Step}
 use Rattle.lines.proofs.Front.{between, front_kept}
 use Rattle.lines.specs.declared.Lines.{Lines}
-use Rattle.lines.specs.declared.Step.{Step}
 use Rattle.lines.specs.declared.Line.TheVariants.{End}
 
-module _ (l : Lines) where
-  pub last-over : (r : Step) → l.over ≡ true → r ≡ line_to_of l l.to l.to → r ≡ last_of l
-  last-over r e f = f ∙ rw e
-
-  pub last_none : l.over ≡ false → l.from ≡ l.to → record { line = End; lines = l } ≡ last_of l
-  last_none e f = rw (e, eq-eqb l.from l.to f)
-
-  pub last_some : (r : Step) → l.over ≡ false → (l.from ≡ l.to → ⊥) → r ≡ line_to_of l l.to l.to → r ≡ last_of l
-  last_some r e f g = g ∙ rw (e, ne_eqb l.from l.to f)
-
 module _ (buf : List ℕ) (l : Lines) where
-  pub step-outside : length buf < l.to → record { line = End; lines = l } ≡ step_of buf l
+  pub step-outside : length buf < l.to → record { answer = End; state = l } ≡ step_of buf l
   unfolding step_of
   step-outside h = rw (lt-leb l.to (length buf) h)
 
-  pub step-backward : l.to ≤ length buf → l.to < l.from → record { line = End; lines = l } ≡ step_of buf l
+  pub step-backward : l.to ≤ length buf → l.to < l.from → record { answer = End; state = l } ≡ step_of buf l
   unfolding step_of
   step-backward h g = rw (le-leb l.to (length buf) h, lt-leb l.from l.to g)
 

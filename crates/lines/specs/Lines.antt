@@ -3,9 +3,13 @@ use Rattle.std.specs.Prelude.{ℕ, ◌+◌, ◌-◌, ◌≤◌, ◌≡◌, Bool,
 use Rattle.words.specs.Choice.{pick}
 use Rattle.script.specs.Words.{newline, until}
 use Rattle.lines.specs.declared.Lines.{Lines}
-use Rattle.lines.specs.declared.Step.{Step}
+use Rattle.words.specs.declared.After.{After}
 use Rattle.lines.specs.declared.Line.{Line}
 use Rattle.lines.specs.declared.Line.TheVariants.{At, TooLong, End, Unread}
+
+-- what is next, and where the input then stands
+abbrev pub Step : Type 0
+Step = After Line Lines
 
 -- nothing is read yet
 abbrev pub unread : Lines
@@ -18,21 +22,21 @@ told false start end = At start end
 
 -- a line that ends at a place; the next begins at another
 abbrev pub line_to_of : Lines → ℕ → ℕ → Step
-line_to_of l end next = record { line = told l.over l.from end; lines = record { from = next; to = l.to; over = false; ended = l.ended } }
+line_to_of l end next = record { answer = told l.over l.from end; state = record { from = next; to = l.to; over = false; ended = l.ended } }
 
 -- the input has ended: the last line need have no newline
 abbrev pub last_of : Lines → Step
 last_of l =
     pick (pick l.over false (eqb l.from l.to))
-    (record { line = End; lines = l })
+    (record { answer = End; state = l })
     (line_to_of l l.to l.to)
 
 -- no newline was read: a line that fills the buffer is too long, and its beginning is forgotten
 abbrev pub unended_of : ℕ → Lines → Step
 unended_of room l =
     pick (ltb (l.to - l.from) room)
-    (record { line = Unread; lines = l })
-    (record { line = Unread; lines = record { from = l.to; to = l.to; over = true; ended = l.ended } })
+    (record { answer = Unread; state = l })
+    (record { answer = Unread; state = record { from = l.to; to = l.to; over = true; ended = l.ended } })
 
 -- by the place of the first newline among what was read
 abbrev pub step_at : ℕ → Lines → ℕ → Step
@@ -43,7 +47,7 @@ unfoldable pub step_of : List ℕ → Lines → Step
 step_of buf l =
     pick (pick (leb l.to (length buf)) (leb l.from l.to) false)
     (step_at (length buf) l (until newline (take l.to buf) l.from))
-    (record { line = End; lines = l })
+    (record { answer = End; state = l })
 
 -- what was read and not told
 unfoldable pub rest_of : List ℕ → Lines → List ℕ

@@ -4,14 +4,15 @@
 //
 // `next` looks for a line among what was read, and `refill` reads more. Each does a bounded amount of
 // work: a caller goes on until `End`.
-ghost use Rattle.std.specs.Prelude.{◌≡◌, ◌-◌, ◌≤◌, min, length, take, drop};
+ghost use Rattle.std.specs.Prelude.{◌≡◌, ◌-◌, ◌≤◌, length, take, drop};
 ghost use Rattle.words.specs.Lists.{splice};
-ghost use Rattle.io.specs.Counts.{IsPrefixLen};
 ghost use Rattle.lines.specs.Lines.{unread, line_to_of, last_of, unended_of, step_of, Refills};
+
+use words::After;
 
 // Where the input stands in the buffer: the bytes from a place to another are read and not told.
 // `over`: they go on a line that is too long. `ended`: no more comes.
-#[derive(Clone, Copy)]
+#[derive(Clone, Copy, Debug, PartialEq, Eq)]
 pub struct Lines {
     from: usize,
     to: usize,
@@ -21,7 +22,7 @@ pub struct Lines {
 
 // What is next: a line, by its place in the buffer and the place after it; a line that is too long;
 // the end of the input; or more is to be read first.
-#[derive(Clone, Copy)]
+#[derive(Clone, Copy, Debug, PartialEq, Eq)]
 pub enum Line {
     At(usize, usize),
     TooLong,
@@ -29,12 +30,8 @@ pub enum Line {
     Unread,
 }
 
-// The answer, and where the input then stands.
-#[derive(Clone, Copy)]
-pub struct Step {
-    pub line: Line,
-    pub lines: Lines,
-}
+// What is next, and where the input then stands.
+pub type Step = After<Line, Lines>;
 
 impl Lines {
     // Nothing is read yet.
@@ -53,39 +50,30 @@ impl Lines {
     fn line_to(self, end: usize, next: usize) -> Step
         ensures { result ≡ line_to_of self end next }
     {
-        let lines = Lines {
-            from: next,
-            to: self.to,
-            over: false,
-            ended: self.ended,
+        let answer = if self.over {
+            Line::TooLong
+        } else {
+            Line::At(self.from, end)
         };
-        if self.over {
-            return Step {
-                line: Line::TooLong,
-                lines,
-            };
-        }
-        Step {
-            line: Line::At(self.from, end),
-            lines,
-        }
+        let state = Lines {
+            from: next,
+            over: false,
+            ..self
+        };
+        Step { answer, state }
     }
 
     // The input has ended: the last line need have no newline.
     fn last(self) -> Step
         ensures { result ≡ last_of self }
     {
-        let to = self.to;
-        if self.over {
-            return self.line_to(to, to);
-        }
-        if self.from == to {
+        if !self.over && self.from == self.to {
             return Step {
-                line: Line::End,
-                lines: self,
+                answer: Line::End,
+                state: self,
             };
         }
-        self.line_to(to, to)
+        self.line_to(self.to, self.to)
     }
 
     // No newline was read: a line that fills the buffer is too long, and its beginning is forgotten.
@@ -93,21 +81,18 @@ impl Lines {
         requires { self.from ≤ self.to }
         ensures { result ≡ unended_of room self }
     {
-        let to = self.to;
-        if to - self.from < room {
-            return Step {
-                line: Line::Unread,
-                lines: self,
-            };
-        }
-        Step {
-            line: Line::Unread,
-            lines: Lines {
-                from: to,
-                to,
+        let state = if self.to - self.from < room {
+            self
+        } else {
+            Lines {
+                from: self.to,
                 over: true,
-                ended: self.ended,
-            },
+                ..self
+            }
+        };
+        Step {
+            answer: Line::Unread,
+            state,
         }
     }
 
@@ -117,21 +102,15 @@ impl Lines {
     {
         let from = self.from;
         let to = self.to;
-        if buf.len() < to {
+        if buf.len() < to || to < from {
             return Step {
-                line: Line::End,
-                lines: self,
+                answer: Line::End,
+                state: self,
             };
         }
-        if to < from {
-            return Step {
-                line: Line::End,
-                lines: self,
-            };
-        }
-        let e = script::line_end(&buf[..to], from);
-        if e < to {
-            return self.line_to(e, e + 1);
+        let end = script::line_end(&buf[..to], from);
+        if end < to {
+            return self.line_to(end, end + 1);
         }
         if self.ended {
             return self.last();
@@ -145,7 +124,7 @@ impl Lines {
         ensures { Refills buf.old self buf.new result }
     {
         let n = to_front(buf, self.from, self.to);
-        let got = read(fd, &mut buf[n..]);
+        let got = io::read_full(fd, &mut buf[n..]);
         Lines {
             from: 0,
             to: n + got,
@@ -155,35 +134,12 @@ impl Lines {
     }
 }
 
-fn least(a: usize, b: usize) -> usize
-    ensures { result ≡ min a b }
-{
-    if a < b {
-        return a;
-    }
-    b
-}
-
 // Moves the bytes from a place to another to the front, and answers how many they are.
 fn to_front(buf: &mut [u8], from: usize, to: usize) -> usize
     ensures { (result ≡ length (take (to - from) (drop from buf.old))) × (result ≤ length buf.new) × (buf.new ≡ splice 0 (take (to - from) (drop from buf.old)) buf.old) }
 {
-    let end = least(buf.len(), to);
-    if end <= from {
-        return 0;
-    }
-    let n = end - from;
-    let mut i = 0;
-    while i < n {
-        buf[i] = buf[from + i];
-        i += 1;
-    }
-    n
-}
-
-// Reads until there is no room or no more comes, and answers how many bytes came.
-fn read(fd: i32, room: &mut [u8]) -> usize
-    ensures { IsPrefixLen result room.new }
-{
-    io::read_full(fd, room)
+    let end = buf.len().min(to);
+    let start = from.min(end);
+    buf.copy_within(start..end, 0);
+    end - start
 }

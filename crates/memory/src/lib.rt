@@ -68,44 +68,18 @@ pub const BYTES: usize = 49_152;
 
 pub const PAGE: usize = 4_096;
 
-// A part of a buffer.
-#[derive(Clone, Copy)]
+// A part of a buffer. It is copied and read twice, which a Range is not made for.
+#[derive(Clone, Copy, Debug, PartialEq, Eq)]
 pub struct Span {
     pub start: usize,
     pub end: usize,
 }
 
-// The part of so many bytes from a place on, as far as there are any.
-pub fn bytes_span(s: &[u8], from: usize, n: usize) -> Span
+// The part of so many elements from a place on, as far as there are any.
+pub fn span_of<T>(s: &[T], from: usize, n: usize) -> Span
     ensures { SpanGives from n (length s.now) result }
 {
-    clipped(s.len(), from, n)
-}
-
-// The same of words.
-pub fn words_span(t: &[u64], from: usize, n: usize) -> Span
-    ensures { SpanGives from n (length t.now) result }
-{
-    clipped(t.len(), from, n)
-}
-
-fn clipped(len: usize, from: usize, n: usize) -> Span
-    ensures { SpanGives from n len result }
-{
-    if len < from {
-        return Span {
-            start: len,
-            end: len,
-        };
-    }
-    if len - from < n {
-        return Span {
-            start: from,
-            end: len,
-        };
-    }
-    Span {
-        start: from,
-        end: from + n,
-    }
+    let start = from.min(s.len());
+    let end = from.saturating_add(n).min(s.len());
+    Span { start, end }
 }

@@ -6,30 +6,28 @@ use native.Mathlib.Omega.{arith}
 use borrow.Author.Tests.{le-leb, lt-leb}
 use lib.ListN.{length, length-append}
 use Rattle.words.specs.Lists.{splice}
-use Rattle.octets.specs.Reader.{ok, fault, num_of, bytes}
+use Rattle.octets.specs.Reader.{ok, fault, bytes}
 use Rattle.octets.specs.Varint.{var, run, var_len, var_bytes, run_bytes}
-use Rattle.octets.specs.declared.Got.{Got}
-use Rattle.octets.specs.declared.Got.TheVariants.{Value, Short}
 use Rattle.octets.proofs.Reader.{landed, var-lands}
 use Rattle.octets.proofs.Back.{length-var}
 use Rattle.octets.proofs.Write.{wrote-both}
 
-module _ (s : List ℕ) (at : ℕ) {r : Got} (e : num_of r ≡ var s at) where
-  pub no_length : r ≡ Short → fault 1 ≡ run s at
+module _ (s : List ℕ) (at : ℕ) where
+  pub no_length : {x : ℕ} → fault x ≡ var s at → fault x ≡ run s at
   unfolding run
-  no_length m = simp (← e, m)
+  no_length e = simp (← e)
 
-  module _ {n b : ℕ} (m : r ≡ Value n b) where
+  module _ {n b : ℕ} (e : ok n b ≡ var s at) where
     pub length-end : b ≤ length s
-    length-end = landed var-lands s at (sym (ap num_of m) ∙ e)
+    length-end = landed var-lands s at e
 
     pub no_bytes : length s - b < n → fault 1 ≡ run s at
     unfolding run bytes
-    no_bytes h = let f : length s < b + n = omega arith in simp (← e, m, lt-leb _ _ f)
+    no_bytes h = let f : length s < b + n = omega arith in simp (← e, lt-leb _ _ f)
 
     pub run-there : n ≤ length s - b → ok (record { place = b; len = n }) (b + n) ≡ run s at
     unfolding run bytes
-    run-there h = let l = length-end in let f : b + n ≤ length s = omega arith in simp (← e, m, le-leb _ _ f)
+    run-there h = let l = length-end in let f : b + n ≤ length s = omega arith in simp (← e, le-leb _ _ f)
 
 pub length_run : (bs : List ℕ) → length (run_bytes bs) ≡ var_len (length bs) + length bs
 unfolding run_bytes

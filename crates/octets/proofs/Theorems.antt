@@ -10,12 +10,8 @@ use Rattle.octets.specs.Reader.{Res, ok, fault, num_of, pair}
 use Rattle.octets.specs.Writer.{Outcome, done, refused, put_of, left}
 use Rattle.octets.specs.Varint.{var, var_len, var_bytes, pair_bytes, run_bytes, Part, run, run_of}
 use Rattle.octets.specs.Spelling.{Bytes, Varint, RunSpelt}
-use Rattle.octets.specs.declared.Got.{Got}
-use Rattle.octets.specs.declared.Got.TheVariants as got
-use Rattle.octets.specs.declared.Run.{Run}
-use Rattle.octets.specs.declared.Run.TheVariants as runs
-use Rattle.octets.specs.declared.Put.{Put}
-use Rattle.octets.specs.declared.Put.TheVariants as puts
+use Rattle.std.specs.Prelude.{Result, Ok, Err}
+use Rattle.words.specs.declared.Refusal.{Refusal}
 use Rattle.octets.proofs.Back.{length-var}
 use Rattle.octets.proofs.Runs.{length_run}
 use Rattle.octets.proofs.Forms.{form-read, var-spelt, var-shortest}
@@ -101,38 +97,38 @@ one_number {v} {w} {bs} r q =
 
 -- ---- 5. one outcome only: two answers that meet one promise are equal, and so are the bytes that they leave
 
-abbrev got_from : Res ℕ → Got
-got_from (ok v next) = got.Value v next
-got_from (fault e) = got.Short
+abbrev got_from : Res ℕ → Result (ℕ × ℕ) Refusal
+got_from (ok v next) = Ok (v, next)
+got_from (fault e) = Err (refusal_of e)
 
-got-undone : (r : Got) → got_from (num_of r) ≡ r
-got-undone (got.Value v next) = refl
-got-undone got.Short = refl
+got-undone : (r : Result (ℕ × ℕ) Refusal) → got_from (num_of r) ≡ r
+got-undone (Ok (v, next)) = refl
+got-undone (Err e) = ap Err (refusal-undone e)
 
-abbrev run_from : Res Part → Run
-run_from (ok p next) = runs.At p.place p.len
-run_from (fault e) = runs.Short
+abbrev run_from : Res Part → Result (ℕ × ℕ) Refusal
+run_from (ok p next) = Ok (p.place, p.len)
+run_from (fault e) = Err (refusal_of e)
 
-run-undone : (r : Run) → run_from (run_of r) ≡ r
-run-undone (runs.At place len) = refl
-run-undone runs.Short = refl
+run-undone : (r : Result (ℕ × ℕ) Refusal) → run_from (run_of r) ≡ r
+run-undone (Ok (place, len)) = refl
+run-undone (Err e) = ap Err (refusal-undone e)
 
-abbrev put_from : Outcome → Put
-put_from (done next) = puts.To next
-put_from (refused e) = puts.Refused (refusal_of e)
+abbrev put_from : Outcome → Result ℕ Refusal
+put_from (done next) = Ok next
+put_from (refused e) = Err (refusal_of e)
 
-put-undone : (r : Put) → put_from (put_of r) ≡ r
-put-undone (puts.To next) = refl
-put-undone (puts.Refused e) = ap puts.Refused (refusal-undone e)
+put-undone : (r : Result ℕ Refusal) → put_from (put_of r) ≡ r
+put-undone (Ok next) = refl
+put-undone (Err e) = ap Err (refusal-undone e)
 
-pub one-got : {x : Res ℕ} (r q : Got) → num_of r ≡ x → num_of q ≡ x → r ≡ q
+pub one-got : {x : Res ℕ} (r q : Result (ℕ × ℕ) Refusal) → num_of r ≡ x → num_of q ≡ x → r ≡ q
 one-got r q e f = told-apart num_of got_from got-undone r q (e ∙ sym f)
 
-pub one-run : {x : Res Part} (r q : Run) → run_of r ≡ x → run_of q ≡ x → r ≡ q
+pub one-run : {x : Res Part} (r q : Result (ℕ × ℕ) Refusal) → run_of r ≡ x → run_of q ≡ x → r ≡ q
 one-run r q e f = told-apart run_of run_from run-undone r q (e ∙ sym f)
 
-pub one-put : {x : Outcome} (r q : Put) → put_of r ≡ x → put_of q ≡ x → r ≡ q
+pub one-put : {x : Outcome} (r q : Result ℕ Refusal) → put_of r ≡ x → put_of q ≡ x → r ≡ q
 one-put r q e f = told-apart put_of put_from put-undone r q (e ∙ sym f)
 
-pub one_left : {x : Outcome} (at : ℕ) (bs out : List ℕ) (r q : Put) {o u : List ℕ} → put_of r ≡ x → put_of q ≡ x → o ≡ left (put_of r) at bs out → u ≡ left (put_of q) at bs out → o ≡ u
+pub one_left : {x : Outcome} (at : ℕ) (bs out : List ℕ) (r q : Result ℕ Refusal) {o u : List ℕ} → put_of r ≡ x → put_of q ≡ x → o ≡ left (put_of r) at bs out → u ≡ left (put_of q) at bs out → o ≡ u
 one_left at bs out r q e f m n = m ∙ ap (λ (y : Outcome). left y at bs out) (e ∙ sym f) ∙ sym n

@@ -1,12 +1,14 @@
 -- What the stores of `write_varint` make of the buffer, in each of its branches. Assumes nothing.
-use Prim.Native.Nat.{ℕ, ◌+◌, ◌*◌, ◌/◌, ◌%◌, ◌≤◌, ◌<◌}
+use Prim.Native.Nat.{ℕ, ◌+◌, ◌*◌, ◌/◌, ◌%◌, ◌^◌, ◌≤◌, ◌<◌}
 use mathlib.Core.Path.{◌≡◌, ap, ap₂, ◌∙◌}
+use mathlib.Core.Bool.{Bool, true, false}
 use mathlib.Core.List.{List, ◌++◌}
 use native.Mathlib.Omega.{arith}
 use native.Mathlib.Nat.{div-one, div-div-eq-div-mul, zero-add}
-use native.Mathlib.Numerals.{towards_suc}
 use borrow.Author.Tests.{lt-ltb, le-ltb, le-leb, lt-leb}
+use lib.Dec.{ltb}
 use lib.ListN.{length, set}
+use Rattle.words.specs.Choice.{pick}
 use Rattle.words.specs.Lists.{splice}
 use Rattle.words.specs.Sizes.{LIMIT}
 use Rattle.words.proofs.Splice.{splice-splice}
@@ -89,10 +91,16 @@ module _ (v : ℕ) where
         let e = ap₂ (λ (x y : List ℕ). x ++ y) (four 3 (v / 4294967296) (omega arith)) (last-four v) ∙ eight 3 v in
         simp (le-ltb _ _ g, le-ltb _ _ g', le-ltb _ _ h) (wrote-both at _ _ s e₁ ea e₂ ∙ ap (λ (bs : List ℕ). splice at bs s) e)
 
--- a two-byte count
-pub wrote-pair : (v at : ℕ) (s : List ℕ) → set (set s at (v / 256)) (at + 1) (v % 256) ≡ splice at (pair_bytes v) s
-unfolding splice
-wrote-pair v at s = simp towards_suc
+-- no form is empty
+pub some_len : (v : ℕ) → 1 ≤ var_len v
+unfolding var_len
+some_len v = go (ltb v (2 ^ 6)) (ltb v (2 ^ 14)) (ltb v (2 ^ 30))
+  where
+    go : (a b c : Bool) → 1 ≤ pick a 1 (pick b 2 (pick c 4 8))
+    go true b c = omega arith
+    go false true c = omega arith
+    go false false true = omega arith
+    go false false false = omega arith
 
 -- ---- the answers of the calls
 

@@ -1,8 +1,8 @@
 -- Reading a list of bytes from left to right, where the first fault met is the answer. Assumes nothing.
-use Rattle.std.specs.Prelude.{ℕ, ◌+◌, ◌*◌, Bool, List, length, get_or, ltb, leb}
+use Rattle.std.specs.Prelude.{ℕ, ◌+◌, ◌*◌, Bool, List, length, get_or, ltb, leb, Result, Ok, Err}
 use Rattle.words.specs.Choice.{pick}
-use Rattle.octets.specs.declared.Got.{Got}
-use Rattle.octets.specs.declared.Got.TheVariants.{Value, Short}
+use Rattle.words.specs.Refusal.{number_of}
+use Rattle.words.specs.declared.Refusal.{Refusal}
 
 -- what reading at a place gives: a value and the place after it, or the number of a fault
 pub data Res (A : Type 0) : Type 0 where
@@ -48,8 +48,8 @@ pair s at = pick (leb (at + 2) (length s)) (ok (get_or s at 0 * 256 + get_or s (
 unfoldable pub bytes : ℕ → Reader ℕ
 bytes n s at = pick (leb (at + n) (length s)) (ok at (at + n)) (fault 1)
 
--- ---- what the code's answer says: a number and the place after it; or 1, the input ends early
+-- ---- what the code's answer says: a number and the place after it, or the number of the refusal
 
-abbrev pub num_of : Got → Res ℕ
-num_of (Value v next) = ok v next
-num_of Short = fault 1
+abbrev pub num_of : Result (ℕ × ℕ) Refusal → Res ℕ
+num_of (Ok (v, next)) = ok v next
+num_of (Err e) = fault (number_of e)

@@ -1,11 +1,11 @@
 -- RFC 9000, section 16: integers of variable length. Document 01, part 1. Assumes nothing.
-use Rattle.std.specs.Prelude.{ℕ, zero, suc, ◌+◌, ◌*◌, ◌-◌, ◌/◌, ◌%◌, ◌^◌, List, [], ◌∷◌, ◌++◌, length, get_or, ltb, leb}
+use Rattle.std.specs.Prelude.{ℕ, zero, suc, ◌+◌, ◌*◌, ◌-◌, ◌/◌, ◌%◌, ◌^◌, List, [], ◌∷◌, ◌++◌, length, get_or, ltb, leb, Result, Ok, Err}
 use Rattle.words.specs.Sizes.{LIMIT}
 use Rattle.words.specs.Choice.{pick, refusal}
 use Rattle.octets.specs.Reader.{Res, Reader, ok, fault, ◌>>=◌, give, bytes}
 use Rattle.octets.specs.Writer.{Outcome, outcome}
-use Rattle.octets.specs.declared.Run.{Run}
-use Rattle.octets.specs.declared.Run.TheVariants.{At, Short}
+use Rattle.words.specs.Refusal.{number_of}
+use Rattle.words.specs.declared.Refusal.{Refusal}
 
 -- ---- writing: the shortest form
 
@@ -92,6 +92,6 @@ unfoldable pub put_run : ℕ → ℕ → ℕ → Outcome
 unfolding var_len
 put_run k at n = outcome (refusal ((leb LIMIT k, 13) ∷ (ltb n (at + (var_len k + k)), 1) ∷ [])) (at + (var_len k + k))
 
-abbrev pub run_of : Run → Res Part
-run_of (At place len) = ok (record { place = place; len = len }) (place + len)
-run_of Short = fault 1
+abbrev pub run_of : Result (ℕ × ℕ) Refusal → Res Part
+run_of (Ok (place, len)) = ok (record { place = place; len = len }) (place + len)
+run_of (Err e) = fault (number_of e)

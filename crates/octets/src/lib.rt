@@ -2,9 +2,11 @@
 // Bytes in lent buffers: the integers of variable length of RFC 9000, section 16, two-byte counts,
 // and bytes with their length before them.
 //
-// Readers answer for every input, at any place. The writers whose names begin with `put` refuse for
-// want of room or for a number that is too large, and then change nothing; those that begin with
-// `write` are for callers that have judged already.
+// Readers answer for every input, at any place: a value and the place after it, or BufferTooShort
+// where the input ends early. Of bytes they answer the place and the length. The writers whose names
+// begin with `put` answer the place after what they wrote; they refuse for want of room or for a
+// number that is too large, and then change nothing. Those that begin with `write` are for callers
+// that have judged already.
 ghost use Rattle.std.specs.Prelude.{◌≡◌, ◌+◌, ◌*◌, ◌^◌, ◌≤◌, ◌<◌, length};
 ghost use Rattle.words.specs.Sizes.{LIMIT};
 ghost use Rattle.words.specs.Lists.{splice};
@@ -14,27 +16,6 @@ ghost use Rattle.octets.specs.Steps.{quad_bytes, pair_at, quad_at};
 ghost use Rattle.octets.specs.Varint.{var_len, var_bytes, pair_bytes, run_bytes, var, run, run_of, var_length, put_var, put_bytes, put_run};
 
 use words::{LIMIT, Refusal};
-
-// What stands at a place: a number and the place after it, or the input ends early.
-#[derive(Clone, Copy)]
-pub enum Got {
-    Value(u64, usize),
-    Short,
-}
-
-// Bytes that stand in the input: their place and their length, or the input ends early.
-#[derive(Clone, Copy)]
-pub enum Run {
-    At(usize, usize),
-    Short,
-}
-
-// The answer of a writer: the place after what it wrote, or why it wrote nothing.
-#[derive(Clone, Copy)]
-pub enum Put {
-    To(usize),
-    Refused(Refusal),
-}
 
 // The length of the shortest form of a number that was judged to have one.
 pub fn form_len(v: u64) -> usize
@@ -53,20 +34,13 @@ pub fn form_len(v: u64) -> usize
 }
 
 // The length of the shortest form of a number.
-pub fn varint_len(v: u64) -> Put
+pub fn varint_len(v: u64) -> Result<usize, Refusal>
     ensures { put_of result ≡ var_length v }
 {
     if LIMIT <= v {
-        return Put::Refused(Refusal::BadNumber);
+        return Err(Refusal::BadNumber);
     }
-    Put::To(form_len(v))
-}
-
-// A byte as a number that can be added to.
-fn wide(b: u8) -> u64
-    ensures { (result ≡ b) × (result < 256) }
-{
-    b as u64
+    Ok(form_len(v))
 }
 
 // The number of two bytes that are there, the higher first.
@@ -74,7 +48,7 @@ fn u16_at(s: &[u8], at: usize) -> u64
     requires { at + 2 ≤ length s.now }
     ensures { (result ≡ pair_at s.now at) × (result < 65536) }
 {
-    wide(s[at]) * 256 + wide(s[at + 1])
+    u64::from(u16::from_be_bytes([s[at], s[at + 1]]))
 }
 
 // The number of four bytes that are there, the highest first.
@@ -82,76 +56,71 @@ fn u32_at(s: &[u8], at: usize) -> u64
     requires { at + 4 ≤ length s.now }
     ensures { (result ≡ quad_at s.now at) × (result < 4294967296) }
 {
-    u16_at(s, at) * 65536 + u16_at(s, at + 2)
+    u64::from(u32::from_be_bytes([s[at], s[at + 1], s[at + 2], s[at + 3]]))
 }
 
 // The byte at a place.
-pub fn get_u8(s: &[u8], at: usize) -> Got
+pub fn get_u8(s: &[u8], at: usize) -> Result<(u64, usize), Refusal>
     ensures { num_of result ≡ byte s.now at }
 {
     if s.len() <= at {
-        return Got::Short;
+        return Err(Refusal::BufferTooShort);
     }
-    Got::Value(wide(s[at]), at + 1)
+    Ok((u64::from(s[at]), at + 1))
 }
 
 // The number of two bytes at a place, the higher first.
-pub fn get_u16(s: &[u8], at: usize) -> Got
+pub fn get_u16(s: &[u8], at: usize) -> Result<(u64, usize), Refusal>
     ensures { num_of result ≡ pair s.now at }
 {
-    if s.len() < at {
-        return Got::Short;
+    if s.len().saturating_sub(at) < 2 {
+        return Err(Refusal::BufferTooShort);
     }
-    if s.len() - at < 2 {
-        return Got::Short;
-    }
-    Got::Value(u16_at(s, at), at + 2)
+    Ok((u16_at(s, at), at + 2))
 }
 
 // The number at a place, in any of the four lengths. What is taken off is the tag, 1, 2 or 3, in the two
 // highest bits.
-pub fn get_varint(s: &[u8], at: usize) -> Got
+pub fn get_varint(s: &[u8], at: usize) -> Result<(u64, usize), Refusal>
     ensures { num_of result ≡ var s.now at }
 {
     if s.len() <= at {
-        return Got::Short;
+        return Err(Refusal::BufferTooShort);
     }
     let room = s.len() - at;
     let b = s[at];
     if b < 64 {
-        return Got::Value(wide(b), at + 1);
+        return Ok((u64::from(b), at + 1));
     }
     if room < 2 {
-        return Got::Short;
+        return Err(Refusal::BufferTooShort);
     }
     if b < 128 {
-        return Got::Value(u16_at(s, at) - 16384, at + 2);
+        return Ok((u16_at(s, at) - 16384, at + 2));
     }
     if room < 4 {
-        return Got::Short;
+        return Err(Refusal::BufferTooShort);
     }
     if b < 192 {
-        return Got::Value(u32_at(s, at) - 2147483648, at + 4);
+        return Ok((u32_at(s, at) - 2147483648, at + 4));
     }
     if room < 8 {
-        return Got::Short;
+        return Err(Refusal::BufferTooShort);
     }
     let high = u32_at(s, at) - 3221225472;
-    Got::Value(high * 4294967296 + u32_at(s, at + 4), at + 8)
+    Ok((high * 4294967296 + u32_at(s, at + 4), at + 8))
 }
 
 // The bytes at a place that have their length before them.
-pub fn get_bytes_with_varint_length(s: &[u8], at: usize) -> Run
+pub fn get_bytes_with_varint_length(s: &[u8], at: usize) -> Result<(usize, usize), Refusal>
     ensures { run_of result ≡ run s.now at }
 {
-    let Got::Value(n, b) = get_varint(s, at) else {
-        return Run::Short;
-    };
+    let (n, b) = get_varint(s, at)?;
     let len = n as usize;
     if s.len() - b < len {
-        return Run::Short;
+        return Err(Refusal::BufferTooShort);
     }
-    Run::At(b, len)
+    Ok((b, len))
 }
 
 // Writes a two-byte count where there is room, and answers the place after it.
@@ -159,9 +128,7 @@ pub fn write_u16(out: &mut [u8], at: usize, v: u16) -> usize
     requires { at + 2 ≤ length out.old }
     ensures { (result ≡ at + 2) × (out.new ≡ splice at (pair_bytes v) out.old) }
 {
-    out[at] = (v / 256) as u8;
-    out[at + 1] = (v % 256) as u8;
-    at + 2
+    words::write_bytes(out, at, &v.to_be_bytes())
 }
 
 // Writes a number in four bytes where there is room, the highest first, and answers the place after it.
@@ -169,8 +136,7 @@ fn write_u32(out: &mut [u8], at: usize, v: u32) -> usize
     requires { at + 4 ≤ length out.old }
     ensures { (result ≡ at + 4) × (out.new ≡ splice at (quad_bytes v) out.old) }
 {
-    let a = write_u16(out, at, (v / 65536) as u16);
-    write_u16(out, a, (v % 65536) as u16)
+    words::write_bytes(out, at, &v.to_be_bytes())
 }
 
 // Writes the shortest form of a number that was judged to fit, and answers the place after it.
@@ -206,55 +172,43 @@ pub fn write_bytes_with_varint_length(out: &mut [u8], at: usize, src: &[u8]) -> 
 }
 
 // Writes the shortest form of a number, or refuses.
-pub fn put_varint(out: &mut [u8], at: usize, v: u64) -> Put
+pub fn put_varint(out: &mut [u8], at: usize, v: u64) -> Result<usize, Refusal>
     ensures { (put_of result ≡ put_var v at (length out.old))
         × (out.new ≡ left (put_of result) at (var_bytes v) out.old) }
 {
     if LIMIT <= v {
-        return Put::Refused(Refusal::BadNumber);
+        return Err(Refusal::BadNumber);
     }
-    if out.len() < at {
-        return Put::Refused(Refusal::BufferTooShort);
+    if out.len().saturating_sub(at) < form_len(v) {
+        return Err(Refusal::BufferTooShort);
     }
-    if out.len() - at < form_len(v) {
-        return Put::Refused(Refusal::BufferTooShort);
-    }
-    Put::To(write_varint(out, at, v))
+    Ok(write_varint(out, at, v))
 }
 
 // Writes a two-byte count, or refuses.
-pub fn put_u16(out: &mut [u8], at: usize, v: u16) -> Put
+pub fn put_u16(out: &mut [u8], at: usize, v: u16) -> Result<usize, Refusal>
     ensures { (put_of result ≡ put_bytes 2 at (length out.old))
         × (out.new ≡ left (put_of result) at (pair_bytes v) out.old) }
 {
-    if out.len() < at {
-        return Put::Refused(Refusal::BufferTooShort);
+    if out.len().saturating_sub(at) < 2 {
+        return Err(Refusal::BufferTooShort);
     }
-    if out.len() - at < 2 {
-        return Put::Refused(Refusal::BufferTooShort);
-    }
-    Put::To(write_u16(out, at, v))
+    Ok(write_u16(out, at, v))
 }
 
 // Writes bytes with their length before them, or refuses.
-pub fn put_bytes_with_varint_length(out: &mut [u8], at: usize, src: &[u8]) -> Put
+pub fn put_bytes_with_varint_length(out: &mut [u8], at: usize, src: &[u8]) -> Result<usize, Refusal>
     ensures { (put_of result ≡ put_run (length src.now) at (length out.old))
         × (out.new ≡ left (put_of result) at (run_bytes src.now) out.old) }
 {
     let n = src.len() as u64;
     if LIMIT <= n {
-        return Put::Refused(Refusal::BadNumber);
+        return Err(Refusal::BadNumber);
     }
-    if out.len() < at {
-        return Put::Refused(Refusal::BufferTooShort);
-    }
-    let room = out.len() - at;
+    let room = out.len().saturating_sub(at);
     let head = form_len(n);
-    if room < head {
-        return Put::Refused(Refusal::BufferTooShort);
+    if room < head || room - head < src.len() {
+        return Err(Refusal::BufferTooShort);
     }
-    if room - head < src.len() {
-        return Put::Refused(Refusal::BufferTooShort);
-    }
-    Put::To(write_bytes_with_varint_length(out, at, src))
+    Ok(write_bytes_with_varint_length(out, at, src))
 }

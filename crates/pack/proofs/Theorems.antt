@@ -1,6 +1,6 @@
 -- Laws of a round's packets: they spend what their payloads are long, each item is in one packet and in order, no group is too full, no packet
 -- is too long, there is at most one packet more than items, what may go may go packed, and the packets lie where the table says. Assumes nothing.
-use Prim.Native.Nat.{ℕ, ◌+◌, ◌*◌, ◌≤◌}
+use Prim.Native.Nat.{ℕ, ◌+◌, ◌*◌, ◌<◌, ◌≤◌}
 use mathlib.Core.Path.{◌≡◌, refl, sym, ap, ◌∙◌}
 use mathlib.Core.Bool.{Bool, true, false}
 use mathlib.Core.List.{List, [], ◌∷◌, ◌++◌, append_assoc}
@@ -8,16 +8,19 @@ use mathlib.Core.Logic.{inl, inr}
 use native.Mathlib.Omega.{arith}
 use borrow.Author.Tests.{ltb-true, ltb-false}
 use lib.Dec.{ltb}
-use lib.ListN.{length, drop}
+use lib.ListN.{length, take, drop}
+use Rattle.std.proofs.lemmas.List.{length-take-le}
 use Rattle.words.specs.Sizes.{LIMIT, SLICE_SIZE}
 use Rattle.words.specs.Lists.{total, All}
 use Rattle.words.proofs.Lists.{total-snoc, all_snoc, all_map, none-refused}
 use Rattle.words.proofs.Splice.{drop-splice}
 use Rattle.words.proofs.Suffix.{past, run, drop-at-splice}
 use Rattle.octets.specs.Varint.{var_len}
-use Rattle.pack.specs.Pack.{Item, items_in, is_small, Pack, group, single, packed_len, packed, pack, payload_of, payload}
+use Rattle.pack.specs.Pack.{Item, items_of, is_small, Pack, group, single, packed_len, packed, pack, payload_of, payload}
 use Rattle.pack.specs.Encode.{Lent, packets_bytes, end_to_end, ENTRY, round_refusal, out_after}
-use Rattle.pack.specs.Rows.{PACK, smalls, pack_len, packets_len, Packs, Sendable, Chosen, PackGoes, Ready, round_number}
+use Rattle.pack.specs.Rows.{smalls, pack_len, packets_len, Packs, Sendable, Chosen, PackGoes, Ready, round_number}
+use Rattle.pack.specs.declared.Item as code
+use Rattle.pack.specs.declared.Row.{Row}
 use Rattle.pack.specs.declared.Packed.{Packed}
 use Rattle.pack.specs.Laws.{pieces, grouped, singles, WellPacked, LONGEST, Lie, none_lie, one_lies}
 use Rattle.pack.proofs.Lengths.{var-most, message-most, slice-most, length-packets}
@@ -146,25 +149,25 @@ all_go ids l is =
     is 0 [] tt
 
 -- what packing tells is judged as the definitions judge a round; where nothing is refused, the packets may be written
-module _ (l : Lent) (seq : ℕ) (t : List ℕ) (n : ℕ) (p : List ℕ) (r : Packed) (w : Packs l.ids seq t n p r) (c : All (Chosen l) (items_in t 0 n)) (out entries : ℕ) where
-  pub bytes-told : r.bytes ≡ length (end_to_end (packets_bytes l seq (pack l.ids (items_in t 0 n))))
-  bytes-told = w.bytes ∙ sym (length-packets l seq (pack l.ids (items_in t 0 n)) (all_go l.ids l (items_in t 0 n) c))
+module _ (l : Lent) (seq : ℕ) (t : List code.Item) (p : List Row) (r : Packed) (w : Packs l.ids seq t p r) (c : All (Chosen l) (items_of t)) (out entries : ℕ) where
+  pub bytes-told : r.bytes ≡ length (end_to_end (packets_bytes l seq (pack l.ids (items_of t))))
+  bytes-told = w.bytes ∙ sym (length-packets l seq (pack l.ids (items_of t)) (all_go l.ids l (items_of t) c))
 
-  pub judged : round_number seq r out entries ≡ round_refusal l seq (pack l.ids (items_in t 0 n)) out entries
+  pub judged : round_number seq r out entries ≡ round_refusal l seq (pack l.ids (items_of t)) out entries
   unfolding round_number round_refusal
   judged = rw (bytes-told, w.packets)
 
-  pub ready : PACK * (n + 1) ≤ length p → round_number seq r out entries ≡ 0 → Ready l seq t p r.packets out entries
+  pub ready : length t < length p → round_number seq r out entries ≡ 0 → Ready l seq t (take r.packets p) out entries
   unfolding round_number All
   ready h e =
       let f = none-refused ((ltb LIMIT (seq + r.packets), 13) ∷ (ltb out r.bytes, 15) ∷ (ltb entries (ENTRY * r.packets), 15) ∷ []) refl e in
+      let n : length (take r.packets p) ≡ r.packets = let k = w.few in length-take-le r.packets p (omega arith) in
       record {
-        rows = let k = w.few in omega arith;
         sound = w.sound;
-        go = rw w.packs (all_go l.ids l (items_in t 0 n) c);
-        numbers = ltb-false LIMIT (seq + r.packets) f.0;
+        go = rw w.packs (all_go l.ids l (items_of t) c);
+        numbers = rw n (ltb-false LIMIT (seq + r.packets) f.0);
         room = rw (w.packs, ← bytes-told) (ltb-false out r.bytes f.1.0);
-        table = ltb-false entries (ENTRY * r.packets) f.1.1.0;
+        table = rw n (ltb-false entries (ENTRY * r.packets) f.1.1.0);
       }
 
 pub round-most : (l : Lent) (seq : ℕ) (is : List Item) → All (Chosen l) is → length (end_to_end (packets_bytes l seq (pack l.ids is))) ≤ LONGEST * length (pack l.ids is)

@@ -1,23 +1,26 @@
 -- The turns of packing: from the first i items packed to the first i + 1, for a piece, for a message that closes the open group and for one
 -- that joins it; and what is told at the end. Assumes nothing.
-use Prim.Native.Nat.{ℕ, zero, suc, ◌+◌, ◌*◌, ◌-◌, ◌≤◌, ◌<◌}
+use Prim.Native.Nat.{ℕ, zero, suc, ◌+◌, ◌-◌, ◌≤◌, ◌<◌}
 use mathlib.Core.Path.{◌≡◌, refl, sym, ap, ◌∙◌}
 use mathlib.Core.Bool.{Bool, true, false}
 use mathlib.Core.List.{List, [], ◌∷◌, ◌++◌, append-nil, append_assoc}
 use native.Mathlib.Omega.{arith}
 use borrow.Author.Tests.{lt-ltb, le-ltb}
-use lib.ListN.{length, length-append}
+use lib.ListN.{length, set, take, length-set, length-append}
+use Rattle.std.proofs.lemmas.List.{take_more_set}
 use Rattle.words.specs.Sizes.{SLICE_SIZE, MAX_MESSAGES}
-use Rattle.words.specs.Lists.{splice, total, All}
+use Rattle.words.specs.Lists.{total, All}
 use Rattle.words.proofs.Lists.{total-snoc, all_snoc}
-use Rattle.pack.specs.Pack.{Item, ITEM, item_at, items_in, is_small, Pack, group, single, packed_len, packed, pack}
-use Rattle.pack.specs.Rows.{Row, PACK, smalls, smalls_in, rows_in, pack_of, packs_in, Sound, pack_len, packets_len, Packs}
-use Rattle.pack.specs.Steps.{row_words, open_row, piece_row, opened, closed, begun, joined, pieced, PackedTo}
+use Rattle.pack.specs.Pack.{Item, item_at, items_of, items_in, is_small, Pack, group, single, packed_len, packed, pack}
+use Rattle.pack.specs.Rows.{smalls, smalls_in, pack_of, packs_in, Sound, pack_len, packets_len, Packs}
+use Rattle.pack.specs.Steps.{open_row, piece_row, opened, closed, begun, joined, pieced, PackedTo}
+use Rattle.pack.specs.declared.Item as code
+use Rattle.pack.specs.declared.Row.{Row}
 use Rattle.pack.specs.declared.Packing.{Packing}
-use Rattle.pack.proofs.Tables.{items-then, smalls-join, smalls-pass, rows-put, packs-put, length-packs, packets-more}
+use Rattle.pack.proofs.Tables.{items-then, items-whole, smalls-join, smalls-pass, packs-put, length-packs, packets-more}
 use Rattle.pack.proofs.Lengths.{var-most, message-most, slice-most}
 
-smalls-none : (t : List ℕ) (i : ℕ) → smalls_in t i i ≡ []
+smalls-none : (t : List code.Item) (i : ℕ) → smalls_in t i i ≡ []
 unfolding smalls_in smalls items_in
 smalls-none t i = let z : i - i ≡ 0 = omega arith in rw z
 
@@ -26,8 +29,8 @@ positive zero h = absurd (h refl)
 positive (suc n) h = omega arith
 
 -- nothing is packed
-pub start : (ids : Bool) (seq : ℕ) (t rows : List ℕ) → PackedTo ids seq t 0 opened rows
-unfolding smalls_in smalls items_in rows_in total packets_len pack All
+pub start : (ids : Bool) (seq : ℕ) (t : List code.Item) (rows : List Row) → PackedTo ids seq t 0 opened rows
+unfolding smalls_in smalls items_in total packets_len pack All
 start ids seq t rows =
     record {
       first = omega arith;
@@ -42,25 +45,25 @@ start ids seq t rows =
     }
 
 -- where one more row is put out
-module _ (ids : Bool) (seq : ℕ) (t : List ℕ) (i : ℕ) (p : Packing) (rows : List ℕ) (w : PackedTo ids seq t i p rows) (r : Row) (h : PACK * (i + 1) ≤ length rows) where
-  room : PACK * (p.packets + 1) ≤ length rows
+module _ (ids : Bool) (seq : ℕ) (t : List code.Item) (i : ℕ) (p : Packing) (rows : List Row) (w : PackedTo ids seq t i p rows) (r : Row) (h : i < length rows) where
+  room : p.packets < length rows
   room = let q = w.packets in omega arith
 
-  put : List ℕ
-  put = splice (PACK * p.packets) (row_words r) rows
+  put : List Row
+  put = set rows p.packets r
 
   put-packs : packs_in t put (p.packets + 1) ≡ packs_in t rows p.packets ++ (pack_of t r ∷ [])
   unfolding put
-  put-packs = packs-put rows p.packets r room t
+  put-packs = packs-put t rows p.packets r room
 
-  put-sound : Sound t r → All (Sound t) (rows_in put 0 (p.packets + 1))
+  put-sound : Sound t r → All (Sound t) (take (p.packets + 1) put)
   unfolding put
-  put-sound s = rw (rows-put rows p.packets r room) (all_snoc (Sound t) (rows_in rows 0 p.packets) r w.sound s)
+  put-sound s = rw (take_more_set rows p.packets r room) (all_snoc (Sound t) (take p.packets rows) r w.sound s)
 
   put-bytes : packets_len ids seq (packs_in t put (p.packets + 1)) ≡ p.bytes + pack_len ids (seq + p.packets) (pack_of t r)
   put-bytes =
       let e = ap (packets_len ids seq) put-packs ∙ packets-more ids seq (packs_in t rows p.packets) (pack_of t r) in
-      let v = ap (λ (m : ℕ). pack_len ids (seq + m) (pack_of t r)) (length-packs t rows p.packets) in
+      let v = ap (λ (m : ℕ). pack_len ids (seq + m) (pack_of t r)) (length-packs t rows p.packets (omega arith)) in
       let b = w.bytes in
       omega arith
 
@@ -92,7 +95,7 @@ unfolding packed
 last_some ids sum [] e = absurd (omega arith)
 last_some ids sum (x ∷ g) e = refl
 
-module _ (ids : Bool) (seq : ℕ) (t : List ℕ) (i : ℕ) (p : Packing) (rows : List ℕ) (w : PackedTo ids seq t i p rows) where
+module _ (ids : Bool) (seq : ℕ) (t : List code.Item) (i : ℕ) (p : Packing) (rows : List Row) (w : PackedTo ids seq t i p rows) where
   -- whatever follows an item is what packing makes of it, after the packets put out so far
   goes : (rest : List Item) {ps : List Pack} → packed ids p.small_messages_bytes (smalls_in t p.first i) (item_at t i ∷ rest) ≡ ps
       → packs_in t rows p.packets ++ ps ≡ pack ids (items_in t 0 (i + 1) ++ rest)
@@ -117,10 +120,10 @@ module _ (ids : Bool) (seq : ℕ) (t : List ℕ) (i : ℕ) (p : Packing) (rows :
           goes_on = λ rest. rw (e, o) (goes rest (packed_join ids p.small_messages_bytes (smalls_in t p.first i) (item_at t i) rest small (rw e at h)));
         }
 
-  module _ (short : (item_at t i).len ≤ SLICE_SIZE) (h : PACK * (i + 1) ≤ length rows) (k : ITEM * (i + 1) ≤ length t) (m : i < MAX_MESSAGES) where
+  module _ (short : (item_at t i).len ≤ SLICE_SIZE) (h : i < length rows) (k : i < length t) (m : i < MAX_MESSAGES) where
     -- a piece
     pub piece-turn : is_small (item_at t i) ≡ false
-        → PackedTo ids seq t (i + 1) (pieced seq (item_at t i) p) (splice (PACK * p.packets) (row_words (piece_row (item_at t i).num i)) rows)
+        → PackedTo ids seq t (i + 1) (pieced seq (item_at t i) p) (set rows p.packets (piece_row (item_at t i).num i))
     unfolding put pack_of pack_len
     piece-turn e =
         let r = piece_row (item_at t i).num i in
@@ -135,14 +138,14 @@ module _ (ids : Bool) (seq : ℕ) (t : List ℕ) (i : ℕ) (p : Packing) (rows :
           sum = rw o w.sum;
           bytes = sym (put-bytes ids seq t i p rows w r h ∙ ap (λ (x : Pack). p.bytes + pack_len ids (seq + p.packets) x) q);
           bounded = let q = w.bounded in omega arith;
-          sound = put-sound ids seq t i p rows w r h (record { within = k; piece = λ z. omega arith; counted = λ z. let n : ◌≡◌ {A = ℕ} 0 1 = cc in absurd (omega arith); few = omega arith });
+          sound = put-sound ids seq t i p rows w r h (record { within = omega arith; piece = λ z. omega arith; counted = λ z. let n : ◌≡◌ {A = ℕ} 0 1 = cc in absurd (omega arith); few = omega arith });
           goes_on = λ rest.
               put-goes ids seq t i p rows w r h _ ∙ goes rest (packed-piece ids p.small_messages_bytes (smalls_in t p.first i) (item_at t i) rest e ∙ rw (q, o));
         }
 
     -- a message that closes the open group, and opens the next
     pub close-turn : {n : ℕ} → is_small (item_at t i) ≡ true → n ≡ packed_len ids (item_at t i) → SLICE_SIZE < p.small_messages_bytes + n
-        → PackedTo ids seq t (i + 1) (begun n (closed seq i p)) (splice (PACK * p.packets) (row_words (open_row p i)) rows)
+        → PackedTo ids seq t (i + 1) (begun n (closed seq i p)) (set rows p.packets (open_row p i))
     unfolding put pack_of pack_len total
     close-turn {n} e en over =
         let r = open_row p i in
@@ -164,38 +167,44 @@ module _ (ids : Bool) (seq : ℕ) (t : List ℕ) (i : ℕ) (p : Packing) (rows :
 
 -- ---- the end of a round
 
-module _ (ids : Bool) (seq : ℕ) (t : List ℕ) (n : ℕ) (p : Packing) (rows : List ℕ) (w : PackedTo ids seq t n p rows) where
-  ends : {ps : List Pack} → packed ids p.small_messages_bytes (smalls_in t p.first n) [] ≡ ps → packs_in t rows p.packets ++ ps ≡ pack ids (items_in t 0 n)
-  ends e = ap (λ (l : List Pack). packs_in t rows p.packets ++ l) (sym e) ∙ w.goes_on [] ∙ ap (pack ids) (append-nil (items_in t 0 n))
+module _ (ids : Bool) (seq : ℕ) (t : List code.Item) (p : Packing) (rows : List Row) (w : PackedTo ids seq t (length t) p rows) where
+  ends : {ps : List Pack} → packed ids p.small_messages_bytes (smalls_in t p.first (length t)) [] ≡ ps → packs_in t rows p.packets ++ ps ≡ pack ids (items_of t)
+  ends e =
+      ap (λ (l : List Pack). packs_in t rows p.packets ++ l) (sym e)
+      ∙ w.goes_on []
+      ∙ ap (pack ids) (append-nil (items_in t 0 (length t)) ∙ sym (items-whole t))
 
   -- no message is left
-  pub end_none : p.small_messages ≡ 0 → Packs ids seq t n rows (record { packets = p.packets; bytes = p.bytes })
-  end_none z =
+  pub end_none : length t < length rows → p.small_messages ≡ 0 → Packs ids seq t rows (record { packets = p.packets; bytes = p.bytes })
+  end_none h z =
       let q = w.messages in
-      let e : packs_in t rows p.packets ≡ pack ids (items_in t 0 n) =
-      sym (append-nil (packs_in t rows p.packets)) ∙ ends (last_none ids p.small_messages_bytes (smalls_in t p.first n) (omega arith)) in
+      let k = w.packets in
+      let e : packs_in t rows p.packets ≡ pack ids (items_of t) =
+      sym (append-nil (packs_in t rows p.packets)) ∙ ends (last_none ids p.small_messages_bytes (smalls_in t p.first (length t)) (omega arith)) in
       record {
         packs = e;
-        packets = sym (length-packs t rows p.packets) ∙ ap length e;
+        packets = sym (length-packs t rows p.packets (omega arith)) ∙ ap length e;
         bytes = w.bytes ∙ ap (packets_len ids seq) e;
         sound = w.sound;
-        few = let k = w.packets in omega arith;
+        few = omega arith;
       }
 
   -- the last group ends the round
-  pub end-some : PACK * (n + 1) ≤ length rows → ITEM * n ≤ length t → n ≤ MAX_MESSAGES → (p.small_messages ≡ 0 → ⊥)
-      → Packs ids seq t n (splice (PACK * p.packets) (row_words (open_row p n)) rows) (record { packets = (closed seq n p).packets; bytes = (closed seq n p).bytes })
+  pub end-some : length t < length rows → length t ≤ MAX_MESSAGES → (p.small_messages ≡ 0 → ⊥)
+      → Packs ids seq t (set rows p.packets (open_row p (length t))) (record { packets = (closed seq (length t) p).packets; bytes = (closed seq (length t) p).bytes })
   unfolding put pack_of pack_len
-  end-some h k m z =
-      let r = open_row p n in
+  end-some h m z =
+      let r = open_row p (length t) in
       let q = w.messages in
-      let some : 0 < length (smalls_in t p.first n) = positive (length (smalls_in t p.first n)) (λ e. z (q ∙ e)) in
-      let e : packs_in t (put ids seq t n p rows w r h) (p.packets + 1) ≡ pack ids (items_in t 0 n) =
-      put-packs ids seq t n p rows w r h ∙ ends (last_some ids p.small_messages_bytes (smalls_in t p.first n) some) in
+      let k = w.packets in
+      let n : p.packets + 1 ≤ length (put ids seq t (length t) p rows w r h) = simp length-set (omega arith) in
+      let some : 0 < length (smalls_in t p.first (length t)) = positive (length (smalls_in t p.first (length t))) (λ e. z (q ∙ e)) in
+      let e : packs_in t (put ids seq t (length t) p rows w r h) (p.packets + 1) ≡ pack ids (items_of t) =
+      put-packs ids seq t (length t) p rows w r h ∙ ends (last_some ids p.small_messages_bytes (smalls_in t p.first (length t)) some) in
       record {
         packs = e;
-        packets = sym (length-packs t (put ids seq t n p rows w r h) (p.packets + 1)) ∙ ap length e;
-        bytes = sym (rw w.sum (put-bytes ids seq t n p rows w r h)) ∙ ap (packets_len ids seq) e;
-        sound = put-sound ids seq t n p rows w r h (record { within = k; piece = λ z. let n : ◌≡◌ {A = ℕ} 0 1 = cc in absurd (omega arith); counted = λ z. w.messages; few = let q = w.few in omega arith });
-        few = let k = w.packets in omega arith;
+        packets = sym (length-packs t (put ids seq t (length t) p rows w r h) (p.packets + 1) n) ∙ ap length e;
+        bytes = sym (rw w.sum (put-bytes ids seq t (length t) p rows w r h)) ∙ ap (packets_len ids seq) e;
+        sound = put-sound ids seq t (length t) p rows w r h (record { within = omega arith; piece = λ z. let n : ◌≡◌ {A = ℕ} 0 1 = cc in absurd (omega arith); counted = λ z. w.messages; few = let q = w.few in omega arith });
+        few = omega arith;
       }

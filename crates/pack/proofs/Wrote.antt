@@ -1,13 +1,15 @@
--- What the writing functions make of the lent memory: a row, a message, a group, a packet, and a turn of the loop that writes packets. Assumes nothing.
+-- What the writing functions make of the lent memory: a message, a group, a packet, and a turn of the loop that writes packets. Assumes nothing.
 use Prim.Native.Nat.{ℕ, suc, ◌+◌, ◌*◌, ◌-◌, ◌≤◌, ◌<◌}
 use mathlib.Core.Path.{◌≡◌, refl, sym, ap, ◌∙◌}
 use mathlib.Core.Bool.{Bool, true, false}
 use mathlib.Core.List.{List, [], ◌∷◌, ◌++◌, map, map-append, append-nil, append_assoc}
 use native.Mathlib.Omega.{arith}
-use native.Mathlib.Nat.{add-zero, sub-zero}
-use native.Mathlib.Numerals.{add-one, add-two, add-three, add-four}
+use native.Mathlib.Nat.{add-zero}
+use native.Mathlib.Numerals.{add-one}
 use lib.Dec.{eqb}
-use lib.ListN.{length, set, take, drop, length-append, length-map}
+use lib.ListN.{length, get_or, set, take, drop, length-append, length-map}
+use Rattle.std.proofs.Math.Seq.{drop-cons}
+use Rattle.std.proofs.lemmas.List.{drop_all}
 use Rattle.words.specs.Sizes.{LIMIT}
 use Rattle.words.specs.Lists.{splice, All}
 use Rattle.words.proofs.Lists.{all_left, all_right}
@@ -20,19 +22,11 @@ use Rattle.packet_slice.specs.Slice.{Slice}
 use Rattle.packet_slice.specs.Write.{slice_said, slice_bytes}
 use Rattle.packet_slice.specs.Steps.{Judged}
 use Rattle.packet_slice.proofs.Wrote.{length-slice}
-use Rattle.pack.specs.Rows.{Row, smalls, smalls_in, row_at, rows_in, pack_of, packs_in, Sound, Sendable, PackGoes, slice_item}
-use Rattle.pack.specs.Steps.{item_words, row_words, said_small, items_bytes, lent}
+use Rattle.pack.specs.Rows.{smalls, smalls_in, no_row, pack_of, packs_of, Sound, Sendable, PackGoes, slice_item}
+use Rattle.pack.specs.Steps.{said_small, items_bytes}
+use Rattle.pack.specs.declared.Item as code
+use Rattle.pack.specs.declared.Row.{Row}
 use Rattle.pack.proofs.Tables.{smalls-append}
-
-pub row_wrote : (j : ℕ) (r : Row) (s : List ℕ)
-    → set (set (set (set s j r.num) (j + 1) r.first) (j + 2) r.end) (j + 3) r.count ≡ splice j (row_words r) s
-unfolding splice
-row_wrote j r s = simp (add-one j, add-two j, add-three j)
-
-pub item-wrote : (j : ℕ) (x : Item) (s : List ℕ)
-    → set (set (set (set (set s j x.num) (j + 1) x.id) (j + 2) x.index) (j + 3) x.place) (j + 4) x.len ≡ splice j (item_words x) s
-unfolding splice
-item-wrote j x s = simp (add-one j, add-two j, add-three j, add-four j)
 
 -- ---- messages
 
@@ -92,7 +86,7 @@ module _ (ids : Bool) (src : List ℕ) (x : Item) where
 
 -- ---- a turn of the loop that writes a group
 
-module _ (t : List ℕ) (e i : ℕ) where
+module _ (t : List code.Item) (e i : ℕ) where
   pub items-none : e ≤ i → items_in t i (e - i) ≡ []
   unfolding items_in
   items-none h = let z : e - i ≡ 0 = omega arith in simp z
@@ -143,132 +137,131 @@ module _ (t : List ℕ) (e i : ℕ) where
 
 -- ---- a packet
 
-module _ (ids : Bool) (channel : ℕ) (small lanes t : List ℕ) (r : Row) where
+module _ (l : Lent) (t : List code.Item) (r : Row) where
   module _ (e : eqb r.num 0 ≡ true) where
-    pub group-goes : PackGoes (lent ids channel small lanes) (pack_of t r) → All (Sendable small) (smalls (items_in t r.first (r.end - r.first)))
+    pub group-goes : PackGoes l (pack_of t r) → All (Sendable l.small) (smalls (items_in t r.first (r.end - r.first)))
     unfolding PackGoes pack_of smalls_in
     group-goes h = simp e at h
 
     pub group-packet : (seq : ℕ) → Sound t r
-        → pack_bytes (lent ids channel small lanes) seq (pack_of t r) ≡ head_bytes ids seq channel r.count ++ items_bytes ids small (items_in t r.first (r.end - r.first))
+        → pack_bytes l seq (pack_of t r) ≡ head_bytes l.ids seq l.channel r.count ++ items_bytes l.ids l.small (items_in t r.first (r.end - r.first))
     unfolding pack_bytes pack_of small_bytes_of items_bytes smalls_in
     group-packet seq s =
         let is : List Item = smalls_in t r.first r.end in
-        let n : length (map (said_item (lent ids channel small lanes)) is) ≡ r.count = length-map is (said_item (lent ids channel small lanes)) ∙ sym (s.counted e) in
+        let n : length (map (said_item l) is) ≡ r.count = length-map is (said_item l) ∙ sym (s.counted e) in
         simp (e, n)
 
     module _ (seq : ℕ) (s : Sound t r) where
-      group-length : length (pack_bytes (lent ids channel small lanes) seq (pack_of t r)) ≡ head_len seq + length (items_bytes ids small (items_in t r.first (r.end - r.first)))
+      group-length : length (pack_bytes l seq (pack_of t r)) ≡ head_len seq + length (items_bytes l.ids l.small (items_in t r.first (r.end - r.first)))
       group-length =
-          let h = length-head ids seq channel r.count in
-          let l = ap length (group-packet seq s) ∙ length-append (head_bytes ids seq channel r.count) (items_bytes ids small (items_in t r.first (r.end - r.first))) in
+          let h = length-head l.ids seq l.channel r.count in
+          let w = ap length (group-packet seq s) ∙ length-append (head_bytes l.ids seq l.channel r.count) (items_bytes l.ids l.small (items_in t r.first (r.end - r.first))) in
           omega arith
 
       -- room for the head, and after it for the messages
-      pub head-room : (at : ℕ) {m : ℕ} → at + length (pack_bytes (lent ids channel small lanes) seq (pack_of t r)) ≤ m → at + head_len seq ≤ m
-      head-room at w = let l = group-length in omega arith
+      pub head-room : (at : ℕ) {m : ℕ} → at + length (pack_bytes l seq (pack_of t r)) ≤ m → at + head_len seq ≤ m
+      head-room at w = let q = group-length in omega arith
 
       module _ (at : ℕ) {a : ℕ} (ea : a ≡ at + head_len seq) where
-        pub rest-room : {m : ℕ} → at + length (pack_bytes (lent ids channel small lanes) seq (pack_of t r)) ≤ m → a + length (items_bytes ids small (items_in t r.first (r.end - r.first))) ≤ m
-        rest-room w = let l = group-length in omega arith
+        pub rest-room : {m : ℕ} → at + length (pack_bytes l seq (pack_of t r)) ≤ m → a + length (items_bytes l.ids l.small (items_in t r.first (r.end - r.first))) ≤ m
+        rest-room w = let q = group-length in omega arith
 
-        pub packet-end : {n : ℕ} → n ≡ a + length (items_bytes ids small (items_in t r.first (r.end - r.first))) → n ≡ at + length (pack_bytes (lent ids channel small lanes) seq (pack_of t r))
-        packet-end w = let l = group-length in omega arith
+        pub packet-end : {n : ℕ} → n ≡ a + length (items_bytes l.ids l.small (items_in t r.first (r.end - r.first))) → n ≡ at + length (pack_bytes l seq (pack_of t r))
+        packet-end w = let q = group-length in omega arith
 
-        pub packet-wrote : (out : List ℕ) {o1 o2 : List ℕ} → o1 ≡ splice at (head_bytes ids seq channel r.count) out
-            → o2 ≡ splice a (items_bytes ids small (items_in t r.first (r.end - r.first))) o1
-            → o2 ≡ splice at (pack_bytes (lent ids channel small lanes) seq (pack_of t r)) out
+        pub packet-wrote : (out : List ℕ) {o1 o2 : List ℕ} → o1 ≡ splice at (head_bytes l.ids seq l.channel r.count) out
+            → o2 ≡ splice a (items_bytes l.ids l.small (items_in t r.first (r.end - r.first))) o1
+            → o2 ≡ splice at (pack_bytes l seq (pack_of t r)) out
         packet-wrote out e1 e2 =
-            let h = length-head ids seq channel r.count in
-            let is = items_bytes ids small (items_in t r.first (r.end - r.first)) in
-            rw (group-packet seq s) (e2 ∙ ap (splice a is) e1 ∙ splice-next at (head_bytes ids seq channel r.count) is out (omega arith))
+            let h = length-head l.ids seq l.channel r.count in
+            let is = items_bytes l.ids l.small (items_in t r.first (r.end - r.first)) in
+            rw (group-packet seq s) (e2 ∙ ap (splice a is) e1 ∙ splice-next at (head_bytes l.ids seq l.channel r.count) is out (omega arith))
 
   module _ (e : eqb r.num 0 ≡ false) where
-    pub piece-goes : PackGoes (lent ids channel small lanes) (pack_of t r) → Sendable lanes (item_at t r.first)
+    pub piece-goes : PackGoes l (pack_of t r) → Sendable l.lanes (item_at t r.first)
     unfolding PackGoes pack_of
     piece-goes h = simp e at h
 
-    pub piece-packet : (seq : ℕ) {s : Slice} → s ≡ slice_item seq channel (item_at t r.first)
-        → slice_bytes ids (slice_said lanes s) ≡ pack_bytes (lent ids channel small lanes) seq (pack_of t r)
+    pub piece-packet : (seq : ℕ) {s : Slice} → s ≡ slice_item seq l.channel (item_at t r.first)
+        → slice_bytes l.ids (slice_said l.lanes s) ≡ pack_bytes l seq (pack_of t r)
     unfolding pack_bytes pack_of
     piece-packet seq q = simp (e, q)
 
-    pub piece-judged : PackGoes (lent ids channel small lanes) (pack_of t r) → (seq : ℕ) → seq < LIMIT → {at m : ℕ}
-        → at + length (pack_bytes (lent ids channel small lanes) seq (pack_of t r)) ≤ m → Judged (slice_item seq channel (item_at t r.first)) (length lanes) at m
+    pub piece-judged : PackGoes l (pack_of t r) → (seq : ℕ) → seq < LIMIT → {at m : ℕ}
+        → at + length (pack_bytes l seq (pack_of t r)) ≤ m → Judged (slice_item seq l.channel (item_at t r.first)) (length l.lanes) at m
     piece-judged h seq q {at} {m} room =
         let g = piece-goes h in
-        let p = slice_item seq channel (item_at t r.first) in
-        let l = ap length (sym (piece-packet seq {s = p} refl)) ∙ length-slice ids lanes p g.stored in
+        let p = slice_item seq l.channel (item_at t r.first) in
+        let w = ap length (sym (piece-packet seq {s = p} refl)) ∙ length-slice l.ids l.lanes p g.stored in
         let n = g.len in
         record { stored = g.stored; sequence = q; id = g.id; index = g.index; num-slices = g.num; len = omega arith; room = omega arith }
 
 -- ---- a turn of the loop that writes packets
 
 -- what is known of the first row that is left, and of the others
-pub rows-rest : (P : Row → Type 0) (p : List ℕ) (k i : ℕ) → i < k → All P (rows_in p i (k - i)) → P (row_at p i) × All P (rows_in p (i + 1) (k - (i + 1)))
-unfolding rows_in All
-rows-rest P p k i h a = let q : k - i ≡ suc (k - (i + 1)) = omega arith in simp q at a
+pub row-left : (P : Row → Type 0) (p : List Row) (i : ℕ) → i < length p → All P (drop i p) → P (get_or p i no_row) × All P (drop (i + 1) p)
+unfolding All
+row-left P p i h a = rw (add-one i) (rw (drop-cons p i no_row h) at a)
 
-pub packs-rest : (P : Pack → Type 0) (t p : List ℕ) (k i : ℕ) → i < k → All P (map (pack_of t) (rows_in p i (k - i)))
-    → P (pack_of t (row_at p i)) × All P (map (pack_of t) (rows_in p (i + 1) (k - (i + 1))))
-unfolding rows_in All
-packs-rest P t p k i h a = let q : k - i ≡ suc (k - (i + 1)) = omega arith in simp q at a
+pub pack-left : (P : Pack → Type 0) (t : List code.Item) (p : List Row) (i : ℕ) → i < length p → All P (packs_of t (drop i p))
+    → P (pack_of t (get_or p i no_row)) × All P (packs_of t (drop (i + 1) p))
+unfolding All
+pack-left P t p i h a = rw (add-one i) (rw (drop-cons p i no_row h) at a)
 
 -- what is left to write from packet i on
-unfoldable pub bytes_from : Lent → ℕ → List ℕ → List ℕ → ℕ → ℕ → List (List ℕ)
-bytes_from l seq t p k i = packets_bytes l (seq + i) (map (pack_of t) (rows_in p i (k - i)))
+unfoldable pub bytes_from : Lent → ℕ → List code.Item → List Row → ℕ → List (List ℕ)
+bytes_from l seq t p i = packets_bytes l (seq + i) (packs_of t (drop i p))
 
-module _ (l : Lent) (seq : ℕ) (t p : List ℕ) (k : ℕ) where
-  pub from_start : bytes_from l seq t p k 0 ≡ packets_bytes l seq (packs_in t p k)
+module _ (l : Lent) (seq : ℕ) (t : List code.Item) (p : List Row) where
+  pub from_start : bytes_from l seq t p 0 ≡ packets_bytes l seq (packs_of t p)
   unfolding bytes_from
-  from_start = rw (add-zero, sub-zero)
+  from_start = rw add-zero
 
   module _ (i : ℕ) where
-    pub from-none : k ≤ i → bytes_from l seq t p k i ≡ []
-    unfolding bytes_from rows_in packets_bytes
-    from-none h = let z : k - i ≡ 0 = omega arith in simp z
+    pub from-none : length p ≤ i → bytes_from l seq t p i ≡ []
+    unfolding bytes_from packets_bytes
+    from-none h = rw (drop_all i p h)
 
-    pub from_next : i < k → bytes_from l seq t p k i ≡ pack_bytes l (seq + i) (pack_of t (row_at p i)) ∷ bytes_from l seq t p k (i + 1)
-    unfolding bytes_from rows_in packets_bytes
+    pub from_next : i < length p → bytes_from l seq t p i ≡ pack_bytes l (seq + i) (pack_of t (get_or p i no_row)) ∷ bytes_from l seq t p (i + 1)
+    unfolding bytes_from packets_bytes
     from_next h =
-        let q : k - i ≡ suc (k - (i + 1)) = omega arith in
         let s : seq + i + 1 ≡ seq + (i + 1) = omega arith in
-        simp (q, s)
+        rw (drop-cons p i no_row h) (simp (s, add-one i))
 
-    pub room-turn : i < k → (at : ℕ) {X : ℕ} → at + length (end_to_end (bytes_from l seq t p k i)) ≡ X → at + length (pack_bytes l (seq + i) (pack_of t (row_at p i))) ≤ X
+    pub room-turn : i < length p → (at : ℕ) {X : ℕ} → at + length (end_to_end (bytes_from l seq t p i)) ≡ X → at + length (pack_bytes l (seq + i) (pack_of t (get_or p i no_row))) ≤ X
     unfolding end_to_end
     room-turn h at w =
-        let e = ap (λ (b : List (List ℕ)). length (end_to_end b)) (from_next h) ∙ length-append (pack_bytes l (seq + i) (pack_of t (row_at p i))) (end_to_end (bytes_from l seq t p k (i + 1))) in
+        let e = ap (λ (b : List (List ℕ)). length (end_to_end b)) (from_next h) ∙ length-append (pack_bytes l (seq + i) (pack_of t (get_or p i no_row))) (end_to_end (bytes_from l seq t p (i + 1))) in
         omega arith
 
-    module _ (h : i < k) (at : ℕ) {next : ℕ} (n : next ≡ at + length (pack_bytes l (seq + i) (pack_of t (row_at p i)))) where
+    module _ (h : i < length p) (at : ℕ) {next : ℕ} (n : next ≡ at + length (pack_bytes l (seq + i) (pack_of t (get_or p i no_row)))) where
       one : List ℕ
-      one = pack_bytes l (seq + i) (pack_of t (row_at p i))
+      one = pack_bytes l (seq + i) (pack_of t (get_or p i no_row))
 
-      pub len-turn : {X : ℕ} → at + length (end_to_end (bytes_from l seq t p k i)) ≡ X → next + length (end_to_end (bytes_from l seq t p k (i + 1))) ≡ X
+      pub len-turn : {X : ℕ} → at + length (end_to_end (bytes_from l seq t p i)) ≡ X → next + length (end_to_end (bytes_from l seq t p (i + 1))) ≡ X
       unfolding end_to_end one
       len-turn w =
-          let e = ap (λ (b : List (List ℕ)). length (end_to_end b)) (from_next h) ∙ length-append one (end_to_end (bytes_from l seq t p k (i + 1))) in
+          let e = ap (λ (b : List (List ℕ)). length (end_to_end b)) (from_next h) ∙ length-append one (end_to_end (bytes_from l seq t p (i + 1))) in
           omega arith
 
-      pub out-turn : (out : List ℕ) {o X : List ℕ} → o ≡ splice at (pack_bytes l (seq + i) (pack_of t (row_at p i))) out
-          → splice at (end_to_end (bytes_from l seq t p k i)) out ≡ X → splice next (end_to_end (bytes_from l seq t p k (i + 1))) o ≡ X
+      pub out-turn : (out : List ℕ) {o X : List ℕ} → o ≡ splice at (pack_bytes l (seq + i) (pack_of t (get_or p i no_row))) out
+          → splice at (end_to_end (bytes_from l seq t p i)) out ≡ X → splice next (end_to_end (bytes_from l seq t p (i + 1))) o ≡ X
       unfolding end_to_end one
-      out-turn out q w = rw (q, splice-next at one (end_to_end (bytes_from l seq t p k (i + 1))) out n) (rw (from_next h) at w)
+      out-turn out q w = rw (q, splice-next at one (end_to_end (bytes_from l seq t p (i + 1))) out n) (rw (from_next h) at w)
 
-      pub table-turn : (s : List ℕ) {X : List ℕ} → splice (ENTRY * i) (entries at (bytes_from l seq t p k i)) s ≡ X
-          → splice (ENTRY * (i + 1)) (entries next (bytes_from l seq t p k (i + 1))) (set (set s (ENTRY * i) at) (ENTRY * i + 1) (next - at)) ≡ X
+      pub table-turn : (s : List ℕ) {X : List ℕ} → splice (ENTRY * i) (entries at (bytes_from l seq t p i)) s ≡ X
+          → splice (ENTRY * (i + 1)) (entries next (bytes_from l seq t p (i + 1))) (set (set s (ENTRY * i) at) (ENTRY * i + 1) (next - at)) ≡ X
       unfolding entries splice one
       table-turn s w =
           let j : ENTRY * (i + 1) ≡ suc (suc (ENTRY * i)) = omega arith in
           let d : next - at ≡ length one = omega arith in
           rw d (simp (j, add-one (ENTRY * i), n) (simp (from_next h) at w))
 
-    module _ (h : k ≤ i) where
-      pub out-done : (at : ℕ) (out : List ℕ) {X : List ℕ} → splice at (end_to_end (bytes_from l seq t p k i)) out ≡ X → out ≡ X
+    module _ (h : length p ≤ i) where
+      pub out-done : (at : ℕ) (out : List ℕ) {X : List ℕ} → splice at (end_to_end (bytes_from l seq t p i)) out ≡ X → out ≡ X
       unfolding end_to_end splice
       out-done at out w = rw (from-none h) at w
 
-      pub table_done : (j at : ℕ) (s : List ℕ) {X : List ℕ} → splice j (entries at (bytes_from l seq t p k i)) s ≡ X → s ≡ X
+      pub table_done : (j at : ℕ) (s : List ℕ) {X : List ℕ} → splice j (entries at (bytes_from l seq t p i)) s ≡ X → s ≡ X
       unfolding entries splice
       table_done j at s w = rw (from-none h) at w

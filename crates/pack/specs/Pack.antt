@@ -1,10 +1,11 @@
 -- Packing what a round sends. Document 01, "Reliable round" and "Unreliable". `ids` tells a reliable round from an unreliable one.
 -- Assumes nothing.
-use Rattle.std.specs.Prelude.{ℕ, zero, suc, ◌+◌, ◌*◌, Bool, List, [], ◌∷◌, ◌++◌, get_or, ltb, eqb}
+use Rattle.std.specs.Prelude.{ℕ, zero, suc, ◌+◌, Bool, List, [], ◌∷◌, ◌++◌, map, get_or, ltb, eqb}
 use Rattle.words.specs.Sizes.{SLICE_SIZE}
 use Rattle.words.specs.Choice.{pick}
 use Rattle.words.specs.Lists.{total}
 use Rattle.octets.specs.Varint.{var_len}
+use Rattle.pack.specs.declared.Item as code
 
 -- ---- what goes, in the order in which the round chose it
 
@@ -16,22 +17,21 @@ pub record Item : Type 0 where
   pub place : ℕ
   pub len : ℕ
 
--- five words for each in a table of the code
-abbrev pub ITEM : ℕ
-ITEM = 5
+-- an item as the code has it in a table
+abbrev pub item_of : code.Item → Item
+item_of x = record { num = x.num; id = x.id.0; index = x.index.0; place = x.place; len = x.len }
 
-abbrev pub item_at : List ℕ → ℕ → Item
-item_at t i =
-    record {
-      num = get_or t (ITEM * i) 0;
-      id = get_or t (ITEM * i + 1) 0;
-      index = get_or t (ITEM * i + 2) 0;
-      place = get_or t (ITEM * i + 3) 0;
-      len = get_or t (ITEM * i + 4) 0;
-    }
+abbrev pub no_item : code.Item
+no_item = record { num = 0; id = record { 0 = 0 }; index = record { 0 = 0 }; place = 0; len = 0 }
+
+abbrev pub items_of : List code.Item → List Item
+items_of t = map item_of t
+
+abbrev pub item_at : List code.Item → ℕ → Item
+item_at t i = item_of (get_or t i no_item)
 
 -- k of them, from the i-th on
-unfoldable pub items_in : List ℕ → ℕ → ℕ → List Item
+unfoldable pub items_in : List code.Item → ℕ → ℕ → List Item
 items_in t i zero = []
 items_in t i (suc k) = item_at t i ∷ items_in t (i + 1) k
 

@@ -1,17 +1,18 @@
 -- The table in which a round's packets stand between packing and encoding, how long they are, and what may go. Assumes nothing.
-use Rattle.std.specs.Prelude.{ℕ, zero, suc, ◌+◌, ◌*◌, ◌-◌, ◌≤◌, ◌<◌, ◌≡◌, Bool, true, false, List, [], ◌∷◌, map, length, get_or, ltb, eqb}
+use Rattle.std.specs.Prelude.{ℕ, ◌+◌, ◌*◌, ◌-◌, ◌≤◌, ◌<◌, ◌≡◌, Bool, true, false, List, [], ◌∷◌, map, take, length, ltb, eqb, Result, Ok, Err}
 use Rattle.words.specs.Sizes.{LIMIT, SLICE_SIZE, MAX_MESSAGES}
 use Rattle.words.specs.Choice.{pick, refusal}
 use Rattle.words.specs.Lists.{total, All}
 use Rattle.words.specs.Refusal.{number_of}
+use Rattle.words.specs.declared.Refusal.{Refusal}
 use Rattle.packet_small.specs.Steps.{head_len}
 use Rattle.packet_slice.specs.Slice.{Slice}
 use Rattle.packet_slice.specs.Steps.{slice_len_of}
-use Rattle.pack.specs.Pack.{Item, ITEM, item_at, items_in, is_small, Pack, group, single, packed_len, pack}
+use Rattle.pack.specs.Pack.{Item, item_at, items_in, items_of, is_small, Pack, group, single, packed_len, pack}
 use Rattle.pack.specs.Encode.{Lent, packets_bytes, end_to_end, ENTRY}
+use Rattle.pack.specs.declared.Item as code
 use Rattle.pack.specs.declared.Packed.{Packed}
-use Rattle.pack.specs.declared.Verdict.{Verdict}
-use Rattle.pack.specs.declared.Verdict.TheVariants.{Goes, Refused}
+use Rattle.pack.specs.declared.Row.{Row}
 
 -- ---- rows
 
@@ -21,40 +22,28 @@ smalls [] = []
 smalls (i ∷ is) = pick (is_small i) (i ∷ smalls is) (smalls is)
 
 -- those from item a on, before item e
-unfoldable pub smalls_in : List ℕ → ℕ → ℕ → List Item
+unfoldable pub smalls_in : List code.Item → ℕ → ℕ → List Item
 smalls_in t a e = smalls (items_in t a (e - a))
 
 -- a group of small messages, where `num` is 0: those among the items from `first` to `end`, pieces between them passed over, `count` in
 -- all; else the piece at `first`
-pub record Row : Type 0 where
-  pub num : ℕ
-  pub first : ℕ
-  pub end : ℕ
-  pub count : ℕ
-
--- four words for each
-abbrev pub PACK : ℕ
-PACK = 4
-
-abbrev pub row_at : List ℕ → ℕ → Row
-row_at p j = record { num = get_or p (PACK * j) 0; first = get_or p (PACK * j + 1) 0; end = get_or p (PACK * j + 2) 0; count = get_or p (PACK * j + 3) 0 }
-
--- k of them, from the j-th on
-unfoldable pub rows_in : List ℕ → ℕ → ℕ → List Row
-rows_in p j zero = []
-rows_in p j (suc k) = row_at p j ∷ rows_in p (j + 1) k
+abbrev pub no_row : Row
+no_row = record { num = 0; first = 0; end = 0; count = 0 }
 
 -- the packet that a row names among the items of t
-unfoldable pub pack_of : List ℕ → Row → Pack
+unfoldable pub pack_of : List code.Item → Row → Pack
 pack_of t r = pick (eqb r.num 0) (group (smalls_in t r.first r.end)) (single (item_at t r.first))
 
--- the packets that k rows name
-abbrev pub packs_in : List ℕ → List ℕ → ℕ → List Pack
-packs_in t p k = map (pack_of t) (rows_in p 0 k)
+-- the packets that rows name, and those that the first k name
+abbrev pub packs_of : List code.Item → List Row → List Pack
+packs_of t p = map (pack_of t) p
+
+abbrev pub packs_in : List code.Item → List Row → ℕ → List Pack
+packs_in t p k = packs_of t (take k p)
 
 -- a row stays within the items and counts its messages
-pub record Sound (t : List ℕ) (r : Row) : Type 0 where
-  pub within : ITEM * r.end ≤ length t
+pub record Sound (t : List code.Item) (r : Row) : Type 0 where
+  pub within : r.end ≤ length t
   pub piece : eqb r.num 0 ≡ false → r.first < r.end
   pub counted : eqb r.num 0 ≡ true → r.count ≡ length (smalls_in t r.first r.end)
   pub few : r.count ≤ MAX_MESSAGES
@@ -85,12 +74,12 @@ packets_len ids seq (p ∷ ps) = pack_len ids seq p + packets_len ids (seq + 1) 
 
 -- ---- what packing promises: the rows name the packets, and their number and length are told
 
-pub record Packs (ids : Bool) (seq : ℕ) (t : List ℕ) (n : ℕ) (p : List ℕ) (r : Packed) : Type 0 where
-  pub packs : packs_in t p r.packets ≡ pack ids (items_in t 0 n)
-  pub packets : r.packets ≡ length (pack ids (items_in t 0 n))
-  pub bytes : r.bytes ≡ packets_len ids seq (pack ids (items_in t 0 n))
-  pub sound : All (Sound t) (rows_in p 0 r.packets)
-  pub few : r.packets ≤ n + 1
+pub record Packs (ids : Bool) (seq : ℕ) (t : List code.Item) (p : List Row) (r : Packed) : Type 0 where
+  pub packs : packs_in t p r.packets ≡ pack ids (items_of t)
+  pub packets : r.packets ≡ length (pack ids (items_of t))
+  pub bytes : r.bytes ≡ packets_len ids seq (pack ids (items_of t))
+  pub sound : All (Sound t) (take r.packets p)
+  pub few : r.packets ≤ length t + 1
 
 -- ---- what may go
 
@@ -113,15 +102,14 @@ unfoldable pub PackGoes : Lent → Pack → Type 0
 PackGoes l (group is) = All (Sendable l.small) is
 PackGoes l (single i) = Sendable l.lanes i
 
--- ---- a round that was judged: k rows, to be written to `out` bytes and `entries` words
+-- ---- a round that was judged: its rows, to be written to `out` bytes and `entries` words
 
-pub record Ready (l : Lent) (seq : ℕ) (t p : List ℕ) (k out entries : ℕ) : Type 0 where
-  pub rows : PACK * k ≤ length p
-  pub sound : All (Sound t) (rows_in p 0 k)
-  pub go : All (PackGoes l) (packs_in t p k)
-  pub numbers : seq + k ≤ LIMIT
-  pub room : length (end_to_end (packets_bytes l seq (packs_in t p k))) ≤ out
-  pub table : ENTRY * k ≤ entries
+pub record Ready (l : Lent) (seq : ℕ) (t : List code.Item) (p : List Row) (out entries : ℕ) : Type 0 where
+  pub sound : All (Sound t) p
+  pub go : All (PackGoes l) (packs_of t p)
+  pub numbers : seq + length p ≤ LIMIT
+  pub room : length (end_to_end (packets_bytes l seq (packs_of t p))) ≤ out
+  pub table : ENTRY * length p ≤ entries
 
 -- ---- the refusals of a round by what packing tells: `room` bytes and `entries` words are lent
 
@@ -133,6 +121,6 @@ round_number seq r room entries =
     (ltb entries (ENTRY * r.packets), 15) ∷ []
     )
 
-abbrev pub verdict_of : Verdict → ℕ
-verdict_of Goes = 0
-verdict_of (Refused e) = number_of e
+abbrev pub verdict_of : Result (Unit {0}) Refusal → ℕ
+verdict_of (Ok done) = 0
+verdict_of (Err e) = number_of e

@@ -1,5 +1,5 @@
 -- The steps of packing and of encoding, for the contracts of private functions. Assumes nothing.
-use Rattle.std.specs.Prelude.{ℕ, ◌+◌, ◌*◌, ◌≤◌, ◌≡◌, Bool, List, [], ◌∷◌, ◌++◌, map, length, take, drop}
+use Rattle.std.specs.Prelude.{ℕ, ◌+◌, ◌*◌, ◌≤◌, ◌≡◌, Bool, List, ◌++◌, map, length, take, drop}
 use Rattle.words.specs.Sizes.{SLICE_SIZE}
 use Rattle.words.specs.Lists.{total, All}
 use Rattle.packet_small.specs.Steps.{head_len}
@@ -7,16 +7,11 @@ use Rattle.packet_small.specs.Write.{Said, id_said, messages_bytes}
 use Rattle.packet_slice.specs.Steps.{slice_len_of}
 use Rattle.pack.specs.Pack.{Item, items_in, packed_len, packed, pack}
 use Rattle.pack.specs.Encode.{Lent}
-use Rattle.pack.specs.Rows.{Row, rows_in, packs_in, smalls, smalls_in, Sound, slice_item, packets_len}
+use Rattle.pack.specs.declared.Item as code
+use Rattle.pack.specs.declared.Lent as lending
+use Rattle.pack.specs.declared.Row.{Row}
+use Rattle.pack.specs.Rows.{packs_in, smalls, smalls_in, Sound, slice_item, packets_len}
 use Rattle.pack.specs.declared.Packing.{Packing}
-
--- ---- the words of an item and of a row
-
-abbrev pub item_words : Item → List ℕ
-item_words i = i.num ∷ i.id ∷ i.index ∷ i.place ∷ i.len ∷ []
-
-abbrev pub row_words : Row → List ℕ
-row_words r = r.num ∷ r.first ∷ r.end ∷ r.count ∷ []
 
 -- ---- packing
 
@@ -73,7 +68,7 @@ abbrev pub MOST : ℕ
 MOST = SLICE_SIZE + 64
 
 -- the first i items are packed: the rows name the packets put out so far, and whatever follows, packing goes on with the open group
-pub record PackedTo (ids : Bool) (seq : ℕ) (t : List ℕ) (i : ℕ) (p : Packing) (rows : List ℕ) : Type 0 where
+pub record PackedTo (ids : Bool) (seq : ℕ) (t : List code.Item) (i : ℕ) (p : Packing) (rows : List Row) : Type 0 where
   pub first : p.first ≤ i
   pub packets : p.packets ≤ i
   pub messages : p.small_messages ≡ length (smalls_in t p.first i)
@@ -81,13 +76,13 @@ pub record PackedTo (ids : Bool) (seq : ℕ) (t : List ℕ) (i : ℕ) (p : Packi
   pub sum : p.small_messages_bytes ≡ total (packed_len ids) (smalls_in t p.first i)
   pub bytes : p.bytes ≡ packets_len ids seq (packs_in t rows p.packets)
   pub bounded : p.bytes + p.small_messages_bytes ≤ MOST * i
-  pub sound : All (Sound t) (rows_in rows 0 p.packets)
+  pub sound : All (Sound t) (take p.packets rows)
   pub goes_on : (rest : List Item) → packs_in t rows p.packets ++ packed ids p.small_messages_bytes (smalls_in t p.first i) rest ≡ pack ids (items_in t 0 i ++ rest)
 
 -- ---- encoding
 
-abbrev pub lent : Bool → ℕ → List ℕ → List ℕ → Lent
-lent ids channel small lanes = record { ids = ids; channel = channel; small = small; lanes = lanes }
+abbrev pub lent_of : lending.Lent → Lent
+lent_of l = record { ids = l.ids; channel = l.channel_id; small = l.small.now; lanes = l.lanes.now }
 
 abbrev pub said_small : Bool → List ℕ → Item → Said
 said_small ids src i = record { id = id_said ids i.id; bytes = take i.len (drop i.place src) }

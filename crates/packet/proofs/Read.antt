@@ -1,30 +1,27 @@
 -- `packet` at each type byte, and what the readers of the layouts say of the whole. Assumes nothing.
-use Prim.Native.Nat.{ℕ, ◌*◌, ◌≤◌, ◌<◌}
+use Prim.Native.Nat.{ℕ, ◌*◌, ◌≤◌}
 use mathlib.Core.Path.{◌≡◌, refl, sym, ap, ◌∙◌}
 use mathlib.Core.Bool.{Bool, true, false}
 use mathlib.Core.List.{List}
 use native.Mathlib.Omega.{arith}
-use borrow.Author.Tests.{lt-ltb, le-ltb, ne_eqb}
+use borrow.Author.Tests.{lt-ltb, ne_eqb}
 use lib.Dec.{leb}
 use lib.ListN.{length, get_or}
+use Rattle.std.specs.Prelude.{Result, Err}
 use Rattle.words.specs.Choice.{pick}
+use Rattle.words.specs.Refusal.{number_of}
+use Rattle.words.specs.declared.Refusal.{Refusal}
+use Rattle.words.specs.declared.Refusal.TheVariants.{InvalidPacketType}
 use Rattle.octets.specs.Reader.{Res, ok, fault, byte}
 use Rattle.packet_small.specs.Small as s
 use Rattle.packet_small.specs.Write as sw
-use Rattle.packet_small.specs.declared.SmallRead.{SmallRead}
 use Rattle.packet_slice.specs.Slice as l
 use Rattle.packet_slice.specs.Write as lw
-use Rattle.packet_slice.specs.declared.SliceRead.{SliceRead}
 use Rattle.packet_ack.specs.Ack as a
 use Rattle.packet_ack.specs.declared.Range.{Range}
 use Rattle.packet_ack.specs.Write as aw
-use Rattle.packet_ack.specs.Steps as steps
-use Rattle.packet_ack.specs.Steps.{filled_from}
-use Rattle.packet_ack.specs.declared.Found as found
-use Rattle.packet.specs.Packet.{Packet, small_reliable, small_unreliable, reliable_slice, unreliable_slice, ack, mapped, body, packet, holds, judged, leaves, messages_of, ranges_of, told, decoded_of, decoded_small_of, decoded_slice_of, decoded_ack_of}
-use Rattle.packet.specs.Steps.{FindGives}
-use Rattle.packet.specs.declared.Found.{Found}
-use Rattle.packet.specs.declared.Decoded.{Decoded}
+use Rattle.packet.specs.Packet.{Packet, small_reliable, small_unreliable, reliable_slice, unreliable_slice, ack, mapped, body, packet, holds, judged, leaves, messages_of, ranges_of, told, decoded_of, decoded_small_of, decoded_slice_of, decoded_ack_of, DecodeGives}
+use Rattle.packet.specs.declared.Packet as code
 
 abbrev pub small_kind : Bool → s.Small → Packet
 small_kind true = small_reliable
@@ -140,88 +137,70 @@ module _ (bs : List ℕ) (h : 1 ≤ length bs) where
   unfolding packet byte
   packet-is = simp (lt-ltb 0 (length bs) (omega arith))
 
-  pub small_is : (ids : Bool) → get_or bs 0 0 ≡ sw.type_byte_of ids → packet bs 0 ≡ mapped (small_kind ids) (s.small ids bs 1)
-  unfolding body
-  small_is true e = packet-is ∙ simp e
-  small_is false e = packet-is ∙ simp e
-
-  pub slice_is : (reliable : Bool) → get_or bs 0 0 ≡ lw.type_byte_of reliable → packet bs 0 ≡ mapped (slice_kind reliable) (l.slice reliable bs 1)
-  unfolding body
-  slice_is true e = packet-is ∙ simp e
-  slice_is false e = packet-is ∙ simp e
-
   pub ack-is : get_or bs 0 0 ≡ aw.type_byte_of → packet bs 0 ≡ mapped ack (a.ack bs 1)
   unfolding body
   ack-is e = packet-is ∙ simp e
 
--- ---- and in the terms in which the code meets it: what is found, and the table of messages
+-- ---- and in the terms in which the code meets it, over the tables that are lent
 
-module _ (bs ms : List ℕ) (n : ℕ) where
-  -- where the whole is a result r, what is found is what r says
-  by_result : {ms' : List ℕ} {f : Found} (r : Res Packet) → packet bs 0 ≡ r
-      → decoded_of f.answer ≡ told (judged r (length ms) n) → ms' ≡ leaves messages_of (judged r (length ms) n) ms → f.count ≤ n
-      → ((t : List Range) → filled_from f.count bs f.top t ≡ leaves ranges_of (judged r (length ms) n) t)
-      → FindGives bs ms n ms' f
-  by_result r e a m w g = record { answer = rw e a; messages = rw e m; within = w; fills = λ t. rw e (g t) }
-
-  -- and where it has no range
-  by-none : {ms' : List ℕ} {f : Found} {d : Decoded} (r : Res Packet) → packet bs 0 ≡ r → (f.answer ≡ d) × (f.count ≡ 0)
-      → decoded_of d ≡ told (judged r (length ms) n) → ms' ≡ leaves messages_of (judged r (length ms) n) ms
-      → ((t : List Range) → t ≡ leaves ranges_of (judged r (length ms) n) t)
-      → FindGives bs ms n ms' f
-  unfolding filled_from
-  by-none r e u a m g = by_result r e (ap decoded_of u.0 ∙ a) m (omega (arith, u.1)) (λ t. rw u.1 (g t))
+module _ (bs ms : List ℕ) (rs : List Range) where
+  -- where the whole is a result r, the answer is what r says
+  by_result : {ms' : List ℕ} {rs' : List Range} {d : Result (code.Packet × ℕ) Refusal} (r : Res Packet) → packet bs 0 ≡ r
+      → decoded_of d ≡ told (judged r (length ms) (length rs)) → ms' ≡ leaves messages_of (judged r (length ms) (length rs)) ms
+      → rs' ≡ leaves ranges_of (judged r (length ms) (length rs)) rs → DecodeGives bs ms rs ms' rs' d
+  by_result r e a m t = record { answer = rw e a; messages = rw e m; ranges = rw e t }
 
   -- no type byte
-  pub no-type : {f : Found} {d : Decoded} → length bs < 1 → decoded_of d ≡ fault 1 → (f.answer ≡ d) × (f.count ≡ 0) → FindGives bs ms n ms f
-  unfolding packet byte judged
-  no-type h e u = by-none (fault 1) (simp (le-ltb 0 (length bs) (omega arith))) u e refl (λ t. refl)
+  pub no-type : (x : Refusal) → fault (number_of x) ≡ byte bs 0 → DecodeGives bs ms rs ms rs (Err x)
+  unfolding packet judged
+  no-type x e = by_result (fault (number_of x)) (simp (← e)) refl refl refl
 
-  module _ (h : 1 ≤ length bs) where
-    pub as-small : (ids : Bool) → get_or bs 0 0 ≡ sw.type_byte_of ids → (x : SmallRead) {ms' : List ℕ} {d : Decoded} {f : Found}
-        → (s.read_of x ≡ s.told (s.judged (s.small ids bs 1) (length ms))) × (ms' ≡ s.tabled (s.judged (s.small ids bs 1) (length ms)) ms)
-        → decoded_of d ≡ decoded_small_of ids (s.read_of x) → (f.answer ≡ d) × (f.count ≡ 0) → FindGives bs ms n ms' f
-    as-small ids e x p q u =
-        by-none (mapped (small_kind ids) (s.small ids bs 1)) (small_is bs h ids e) u
-        (q ∙ ap (decoded_small_of ids) p.0 ∙ small-told ids (s.small ids bs 1) (length ms) n)
-        (p.1 ∙ small-table ids (s.small ids bs 1) (length ms) n ms)
-        (small-rest ids (s.small ids bs 1) (length ms) n)
+  module _ {t at : ℕ} (e : ok t at ≡ byte bs 0) where
+    packet-at : packet bs 0 ≡ body t bs at
+    unfolding packet
+    packet-at = simp (← e)
 
-    pub as-slice : (reliable : Bool) → get_or bs 0 0 ≡ lw.type_byte_of reliable → (x : SliceRead) {d : Decoded} {f : Found}
-        → l.read_of x ≡ l.slice reliable bs 1 → decoded_of d ≡ decoded_slice_of reliable (l.read_of x) → (f.answer ≡ d) × (f.count ≡ 0) → FindGives bs ms n ms f
-    as-slice reliable e x p q u =
-        by-none (mapped (slice_kind reliable) (l.slice reliable bs 1)) (slice_is bs h reliable e) u
-        (q ∙ ap (decoded_slice_of reliable) p ∙ slice-told reliable (l.slice reliable bs 1) (length ms) n)
-        (slice-rest messages_of messages-rest reliable (l.slice reliable bs 1) (length ms) n ms)
-        (slice-rest ranges_of ranges-rest reliable (l.slice reliable bs 1) (length ms) n)
+    small-at : (ids : Bool) → t ≡ sw.type_byte_of ids → packet bs 0 ≡ mapped (small_kind ids) (s.small ids bs at)
+    unfolding body
+    small-at true q = packet-at ∙ simp q
+    small-at false q = packet-at ∙ simp q
 
-    pub as-ack : get_or bs 0 0 ≡ aw.type_byte_of → (x : found.Found) {f : Found} → steps.FindGives bs 1 n x
-        → (decoded_of f.answer ≡ decoded_ack_of (a.read_of x.answer)) × (f.top ≡ x.top) × (f.count ≡ x.count) → FindGives bs ms n ms f
-    as-ack e x p u =
-        by_result (mapped ack (a.ack bs 1)) (ack-is bs h e)
-        (u.0 ∙ ap decoded_ack_of p.answer ∙ ack-told (a.ack bs 1) (length ms) n)
-        (ack-rest (a.ack bs 1) (length ms) n ms)
-        (omega (arith, u.2, p.within))
-        (λ t. rw (u.1, u.2) (p.fills t ∙ ack-table (a.ack bs 1) (length ms) n t))
+    slice-at : (reliable : Bool) → t ≡ lw.type_byte_of reliable → packet bs 0 ≡ mapped (slice_kind reliable) (l.slice reliable bs at)
+    unfolding body
+    slice-at true q = packet-at ∙ simp q
+    slice-at false q = packet-at ∙ simp q
+
+    ack-at : t ≡ aw.type_byte_of → packet bs 0 ≡ mapped ack (a.ack bs at)
+    unfolding body
+    ack-at q = packet-at ∙ simp q
+
+    pub as-small : (ids : Bool) → t ≡ sw.type_byte_of ids → {x : Res s.Told} {ms' : List ℕ} {d : Result (code.Packet × ℕ) Refusal}
+        → (x ≡ s.told (s.judged (s.small ids bs at) (length ms))) × (ms' ≡ s.tabled (s.judged (s.small ids bs at) (length ms)) ms)
+        → decoded_of d ≡ decoded_small_of ids x → DecodeGives bs ms rs ms' rs d
+    as-small ids q p u =
+        by_result (mapped (small_kind ids) (s.small ids bs at)) (small-at ids q)
+        (u ∙ ap (decoded_small_of ids) p.0 ∙ small-told ids (s.small ids bs at) (length ms) (length rs))
+        (p.1 ∙ small-table ids (s.small ids bs at) (length ms) (length rs) ms)
+        (small-rest ids (s.small ids bs at) (length ms) (length rs) rs)
+
+    pub as-slice : (reliable : Bool) → t ≡ lw.type_byte_of reliable → {x : Res l.Slice} {d : Result (code.Packet × ℕ) Refusal}
+        → x ≡ l.slice reliable bs at → decoded_of d ≡ decoded_slice_of reliable x → DecodeGives bs ms rs ms rs d
+    as-slice reliable q p u =
+        by_result (mapped (slice_kind reliable) (l.slice reliable bs at)) (slice-at reliable q)
+        (u ∙ ap (decoded_slice_of reliable) p ∙ slice-told reliable (l.slice reliable bs at) (length ms) (length rs))
+        (slice-rest messages_of messages-rest reliable (l.slice reliable bs at) (length ms) (length rs) ms)
+        (slice-rest ranges_of ranges-rest reliable (l.slice reliable bs at) (length ms) (length rs) rs)
+
+    pub as-ack : t ≡ aw.type_byte_of → {x : Res a.Told} {rs' : List Range} {d : Result (code.Packet × ℕ) Refusal}
+        → (x ≡ a.told (a.judged (a.ack bs at) (length rs))) × (rs' ≡ a.tabled (a.judged (a.ack bs at) (length rs)) rs)
+        → decoded_of d ≡ decoded_ack_of x → DecodeGives bs ms rs ms rs' d
+    as-ack q p u =
+        by_result (mapped ack (a.ack bs at)) (ack-at q)
+        (u ∙ ap decoded_ack_of p.0 ∙ ack-told (a.ack bs at) (length ms) (length rs))
+        (ack-rest (a.ack bs at) (length ms) (length rs) ms)
+        (p.1 ∙ ack-table (a.ack bs at) (length ms) (length rs) rs)
 
     -- a type byte above 4
-    pub no_kind : {f : Found} {d : Decoded} → (get_or bs 0 0 ≡ 0 → ⊥) → (get_or bs 0 0 ≡ 1 → ⊥) → (get_or bs 0 0 ≡ 2 → ⊥) → (get_or bs 0 0 ≡ 3 → ⊥) → (get_or bs 0 0 ≡ 4 → ⊥)
-        → decoded_of d ≡ fault 6 → (f.answer ≡ d) × (f.count ≡ 0) → FindGives bs ms n ms f
+    pub no_kind : (t ≡ 0 → ⊥) → (t ≡ 1 → ⊥) → (t ≡ 2 → ⊥) → (t ≡ 3 → ⊥) → (t ≡ 4 → ⊥) → DecodeGives bs ms rs ms rs (Err InvalidPacketType)
     unfolding body judged
-    no_kind n0 n1 n2 n3 n4 q u = by-none (fault 6) is u q refl (λ t. refl)
-      where
-        is : packet bs 0 ≡ fault 6
-        is = packet-is bs h ∙ none
-          where
-            none : body (get_or bs 0 0) bs 1 ≡ fault 6
-            none = simp (ne_eqb _ _ n0, ne_eqb _ _ n1, ne_eqb _ _ n2, ne_eqb _ _ n3, ne_eqb _ _ n4)
-
--- ---- a fault of a layout's reader is one of the whole
-
-pub small-fault : (ids : Bool) (r : Res s.Told) {e : ℕ} → r ≡ fault e → fault e ≡ decoded_small_of ids r
-small-fault true r m = simp m
-small-fault false r m = simp m
-
-pub slice-fault : (reliable : Bool) (r : Res l.Slice) {e : ℕ} → r ≡ fault e → fault e ≡ decoded_slice_of reliable r
-slice-fault true r m = simp m
-slice-fault false r m = simp m
+    no_kind n0 n1 n2 n3 n4 = by_result (fault 6) (packet-at ∙ simp (ne_eqb _ _ n0, ne_eqb _ _ n1, ne_eqb _ _ n2, ne_eqb _ _ n3, ne_eqb _ _ n4)) refl refl refl

@@ -15,7 +15,6 @@ use Rattle.words.proofs.Lists.{numbered, none-refused}
 use Rattle.words.proofs.Unique.{told-apart, refusal_of, refusal-undone}
 use Rattle.octets.specs.Reader.{Res, ok, fault, byte}
 use Rattle.octets.specs.Writer.{done, refused, outcome, put_of, left}
-use Rattle.octets.specs.declared.Put.{Put}
 use Rattle.octets.specs.Spelling.{Bytes}
 use Rattle.octets.proofs.Read.{byte-there}
 use Rattle.octets.proofs.Theorems as octets
@@ -41,8 +40,8 @@ use Rattle.packet.specs.Packet.{Packet, small_reliable, small_unreliable, reliab
 use Rattle.packet.specs.declared.Packet as code
 use Rattle.packet.specs.Steps.{ReadGives}
 use Rattle.packet.specs.declared.DecodedTable.{DecodedTable}
-use Rattle.packet.specs.declared.Decoded.{Decoded}
-use Rattle.packet.specs.declared.Decoded.TheVariants as decoded
+use Rattle.std.specs.Prelude.{Result, Ok, Err}
+use Rattle.words.specs.declared.Refusal.{Refusal}
 use Rattle.packet.specs.declared.Packet.TheVariants as kind
 use Rattle.packet.specs.Write.{encoded, bytes_of}
 use Rattle.packet.specs.Layout.{Said, Spelt, said_in, said_by, AllowedSlice, Allowed, ByteChannel}
@@ -198,17 +197,17 @@ packet-undone (kind.ReliableSlice p) = refl
 packet-undone (kind.UnreliableSlice p) = refl
 packet-undone (kind.Ack p) = refl
 
-abbrev decoded_from : Res Told → Decoded
-decoded_from (ok p used) = decoded.Whole (packet_from p) used
-decoded_from (fault e) = decoded.Refused (refusal_of e)
+abbrev decoded_from : Res Told → Result (code.Packet × ℕ) Refusal
+decoded_from (ok p used) = Ok (packet_from p, used)
+decoded_from (fault e) = Err (refusal_of e)
 
-decoded-undone : (d : Decoded) → decoded_from (decoded_of d) ≡ d
-decoded-undone (decoded.Whole p used) = ap (λ (x : code.Packet). decoded.Whole x used) (packet-undone p)
-decoded-undone (decoded.Refused e) = ap decoded.Refused (refusal-undone e)
+decoded-undone : (d : Result (code.Packet × ℕ) Refusal) → decoded_from (decoded_of d) ≡ d
+decoded-undone (Ok (p, used)) = ap (λ (x : code.Packet). Ok (x, used)) (packet-undone p)
+decoded-undone (Err e) = ap Err (refusal-undone e)
 
 -- the promise of `from_bytes` admits one answer and one content of each table
 module _ (bs ms : List ℕ) (rs : List Range) where
-  pub one-decoded : {m m' : List ℕ} {r r' : List Range} (d d' : Decoded) → DecodeGives bs ms rs m r d → DecodeGives bs ms rs m' r' d' → (d ≡ d') × (m ≡ m') × (r ≡ r')
+  pub one-decoded : {m m' : List ℕ} {r r' : List Range} (d d' : Result (code.Packet × ℕ) Refusal) → DecodeGives bs ms rs m r d → DecodeGives bs ms rs m' r' d' → (d ≡ d') × (m ≡ m') × (r ≡ r')
   one-decoded d d' x y =
       (told-apart decoded_of decoded_from decoded-undone d d' (x.answer ∙ sym y.answer), x.messages ∙ sym y.messages, x.ranges ∙ sym y.ranges)
 
@@ -222,6 +221,6 @@ module _ (bs ms : List ℕ) (rs : List Range) (n : ℕ) where
 
 -- and that of `to_bytes` one answer and one content of the lent bytes; `encode` promises the same of the records that are lent
 module _ (p : code.Packet) (ms : List ℕ) (rs : List Range) (src out : List ℕ) where
-  pub one-encoded : {o o' : List ℕ} (r r' : Put) → put_of r ≡ encoded p ms rs src (length out) → put_of r' ≡ encoded p ms rs src (length out)
+  pub one-encoded : {o o' : List ℕ} (r r' : Result ℕ Refusal) → put_of r ≡ encoded p ms rs src (length out) → put_of r' ≡ encoded p ms rs src (length out)
       → o ≡ left (put_of r) 0 (bytes_of p ms rs src) out → o' ≡ left (put_of r') 0 (bytes_of p ms rs src) out → (r ≡ r') × (o ≡ o')
   one-encoded r r' e e' l l' = (octets.one-put r r' e e', octets.one_left 0 (bytes_of p ms rs src) out r r' e e' l l')

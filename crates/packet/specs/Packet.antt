@@ -1,8 +1,9 @@
 -- The five kinds of packets, read. Document 01, "Packet layouts" and "Numbers a caller may see". Assumes nothing.
-use Rattle.std.specs.Prelude.{ℕ, ◌*◌, ◌≡◌, Bool, true, false, List, length, eqb, leb}
+use Rattle.std.specs.Prelude.{ℕ, ◌*◌, ◌≡◌, Bool, true, false, List, length, eqb, leb, Result, Ok, Err}
 use Rattle.words.specs.Choice.{pick}
 use Rattle.words.specs.Lists.{splice}
 use Rattle.words.specs.Refusal.{number_of}
+use Rattle.words.specs.declared.Refusal.{Refusal}
 use Rattle.octets.specs.Reader.{Res, ok, fault, Reader, ◌>>=◌, byte}
 use Rattle.packet_small.specs.Small as s
 use Rattle.packet_slice.specs.Slice as l
@@ -10,8 +11,6 @@ use Rattle.packet_ack.specs.Ack as a
 use Rattle.packet_ack.specs.declared.Range.{Range}
 use Rattle.packet.specs.declared.Packet as code
 use Rattle.packet.specs.declared.Packet.TheVariants as kind
-use Rattle.packet.specs.declared.Decoded.{Decoded}
-use Rattle.packet.specs.declared.Decoded.TheVariants.{Whole, Refused}
 
 -- one of the five kinds, over what a packet of small messages, of a piece and of acknowledgements says
 pub data Kinds (S L A : Type 0) : Type 0 where
@@ -111,9 +110,9 @@ packet_of (kind.UnreliableSlice p) = unreliable_slice (l.slice_of p)
 packet_of (kind.Ack p) = ack (record { sequence = p.sequence.0; count = p.count })
 
 -- the packet and the bytes used, or the number of the refusal
-abbrev pub decoded_of : Decoded → Res Told
-decoded_of (Whole p used) = ok (packet_of p) used
-decoded_of (Refused e) = fault (number_of e)
+abbrev pub decoded_of : Result (code.Packet × ℕ) Refusal → Res Told
+decoded_of (Ok (p, used)) = ok (packet_of p) used
+decoded_of (Err e) = fault (number_of e)
 
 -- the same of the answers of each layout's reader
 abbrev pub decoded_small_of : Bool → Res s.Told → Res Told
@@ -130,7 +129,7 @@ decoded_ack_of r = mapped ack r
 -- ---- what reading gives, all of it
 
 -- with the tables ms and rs lent for messages and ranges: the answer, and what is in them afterwards
-pub record DecodeGives (bs ms : List ℕ) (rs : List Range) (ms' : List ℕ) (rs' : List Range) (d : Decoded) : Type 0 where
+pub record DecodeGives (bs ms : List ℕ) (rs : List Range) (ms' : List ℕ) (rs' : List Range) (d : Result (code.Packet × ℕ) Refusal) : Type 0 where
   pub answer : decoded_of d ≡ told (judged (packet bs 0) (length ms) (length rs))
   pub messages : ms' ≡ leaves messages_of (judged (packet bs 0) (length ms) (length rs)) ms
   pub ranges : rs' ≡ leaves ranges_of (judged (packet bs 0) (length ms) (length rs)) rs

@@ -5,19 +5,14 @@ use mathlib.Core.List.{List, ◌∷◌, reverse}
 use native.Mathlib.Omega.{arith}
 use borrow.Author.Tests.{le-leb, lt-leb}
 use lib.ListN.{length, length-reverse}
+use Rattle.std.specs.Prelude.{Ok, Err}
 use Rattle.words.specs.Refusal.{number_of}
 use Rattle.words.specs.declared.Refusal.{Refusal}
-use Rattle.octets.specs.Reader.{Res, ok, fault, then, num_of}
+use Rattle.words.specs.declared.Refusal.TheVariants.{TableFull}
+use Rattle.octets.specs.Reader.{Res, ok, fault, then}
 use Rattle.octets.specs.Varint.{var}
-use Rattle.octets.specs.declared.Got.{Got}
-use Rattle.octets.specs.declared.Got.TheVariants.{Value, Short}
-use Rattle.packet_ack.specs.declared.Highest.{Highest}
-use Rattle.packet_ack.specs.declared.Highest.TheVariants.{Whole, Refused}
-use Rattle.packet_ack.specs.declared.Walk.{Walk}
-use Rattle.packet_ack.specs.declared.Walk.TheVariants as walk_case
-use Rattle.packet_ack.specs.Ack.{Range, Ack, lower, lowers, ack, judged, tabled, read_of}
-use Rattle.packet_ack.specs.Steps.{range, highest, highest_of, ended, walk_of, filled_from, FindGives}
-use Rattle.packet_ack.specs.declared.Found.{Found}
+use Rattle.packet_ack.specs.Ack.{Range, Ack, lower, lowers, ack, judged, tabled}
+use Rattle.packet_ack.specs.Steps.{Top, highest, ended, FindGives}
 use Rattle.packet_ack.proofs.Fill.{filled-rising}
 
 -- ---- the number of the lower ranges
@@ -64,55 +59,54 @@ parts : (s : List ℕ) (at : ℕ)
 unfolding ack highest
 parts s at = simp then-then
 
-module _ (s : List ℕ) (at : ℕ) {r : Got} (e : num_of r ≡ var s at) where
-  pub no-seq : r ≡ Short → fault 1 ≡ ack s at
-  no-seq m = simp (parts, ← e, m)
+module _ (s : List ℕ) (at : ℕ) where
+  pub no-seq : {x : ℕ} → fault x ≡ var s at → fault x ≡ ack s at
+  no-seq e = simp (parts, ← e)
 
-  module _ {seq a : ℕ} (m : r ≡ Value seq a) {h : Highest} (e' : highest_of h ≡ highest s a) where
-    pub no-highest : {x : Refusal} → h ≡ Refused x → fault (number_of x) ≡ ack s at
-    no-highest m' = simp (parts, ← e, m, ← e', m')
+  module _ {seq a : ℕ} (e : ok seq a ≡ var s at) where
+    pub no-highest : {x : ℕ} → fault x ≡ highest s a → fault x ≡ ack s at
+    no-highest e' = simp (parts, ← e, ← e')
 
-    module _ {start end k b : ℕ} (m' : h ≡ Whole start end k b) where
-      rest : ack s at ≡ then (lowers k start s b) (λ rs next. ok (packet seq (range start end) rs) next)
-      rest = simp (parts, ← e, m, ← e', m')
+    module _ {h : Top} {b : ℕ} (e' : ok h b ≡ highest s a) where
+      rest : ack s at ≡ then (lowers h.lower h.top.start s b) (λ rs next. ok (packet seq h.top rs) next)
+      rest = simp (parts, ← e, ← e')
 
-      pub no_lower : {w : Walk} {x : Refusal} → walk_of w ≡ ended (lowers k start s b) → w ≡ walk_case.Refused x → fault (number_of x) ≡ ack s at
-      no_lower e'' m'' = lost (lowers k start s b) _ (sym (ap walk_of m'') ∙ e'') ∙ sym rest
+      pub no_lower : {x : ℕ} → fault x ≡ ended (lowers h.lower h.top.start s b) → fault x ≡ ack s at
+      no_lower e'' = lost (lowers h.lower h.top.start s b) _ e'' ∙ sym rest
 
-      module _ {w : Walk} (e'' : walk_of w ≡ ended (lowers k start s b)) {next : ℕ} (m'' : w ≡ walk_case.Until next) where
-        walked : (rs : List Range) × (lowers k start s b ≡ ok rs next)
-        walked = until (lowers k start s b) (sym (ap walk_of m'') ∙ e'')
+      module _ {next : ℕ} (e'' : ok tt next ≡ ended (lowers h.lower h.top.start s b)) where
+        walked : (rs : List Range) × (lowers h.lower h.top.start s b ≡ ok rs next)
+        walked = until (lowers h.lower h.top.start s b) e''
 
-        is-packet : ack s at ≡ ok (packet seq (range start end) walked.0) next
-        is-packet = rest ∙ ap (λ (r : Res (List Range)). then r (λ rs next. ok (packet seq (range start end) rs) next)) walked.1
+        is-packet : ack s at ≡ ok (packet seq h.top walked.0) next
+        is-packet = rest ∙ ap (λ (r : Res (List Range)). then r (λ rs next. ok (packet seq h.top rs) next)) walked.1
 
-        count : length walked.0 ≡ k
-        count = subst (Counts k) walked.1 (lowers-count k start s b)
+        count : length walked.0 ≡ h.lower
+        count = subst (Counts h.lower) walked.1 (lowers-count h.lower h.top.start s b)
 
-        ranges : length (reverse (range start end ∷ walked.0)) ≡ k + 1
-        ranges = length-reverse (range start end ∷ walked.0) ∙ (let c = count in omega arith)
+        ranges : length (reverse (h.top ∷ walked.0)) ≡ h.lower + 1
+        ranges = length-reverse (h.top ∷ walked.0) ∙ (let c = count in omega arith)
 
-        module _ (n : ℕ) (full : n ≤ k) where
-          pub table-full : {f : Found} → (read_of f.answer ≡ fault 11) × (f.count ≡ 0) → FindGives s at n f
-          unfolding judged tabled filled_from
-          table-full e =
-              let over : n < k + 1 = omega arith in
-              record { answer = e.0 ∙ sym (simp (is-packet, ranges, lt-leb _ _ over)); within = omega arith; fills = λ t. simp (e.1, is-packet, ranges, lt-leb _ _ over) }
+        pub table-full : (n : ℕ) → n ≤ h.lower → FindGives s at n (Err TableFull)
+        unfolding judged tabled
+        table-full n full =
+            let over : n < h.lower + 1 = omega arith in
+            record { answer = sym (simp (is-packet, ranges, lt-leb _ _ over)); within = omega arith; fills = λ t. simp (is-packet, ranges, lt-leb _ _ over) }
 
-        module _ (n : ℕ) (room : k < n) where
-          pub table_fits : {f : Found} → read_of f.answer ≡ ok (record { sequence = seq; count = k + 1 }) next → f.count ≡ k + 1 → f.top ≡ record { range = range start end; next = b } → FindGives s at n f
-          unfolding judged tabled
-          table_fits e u c =
-              let within : k + 1 ≤ n = omega arith in
-              let fits : suc k ≤ n = omega arith in
-              let one : k + 1 ≡ suc k = omega arith in
-              record {
-                answer = e ∙ sym (simp (is-packet, ranges, le-leb _ _ within));
-                within = omega arith;
-                fills = λ t. simp (u, c, is-packet, ranges, one, le-leb _ _ fits) (filled-rising k s (range start end) b t walked.1 count);
-              }
+        pub table_fits : (n : ℕ) → h.lower < n
+            → FindGives s at n (Ok (record { ack = record { sequence = record { 0 = seq }; count = h.lower + 1 }; next = next; top = record { range = h.top; next = b } }))
+        unfolding judged tabled
+        table_fits n room =
+            let within : h.lower + 1 ≤ n = omega arith in
+            let fits : suc h.lower ≤ n = omega arith in
+            let one : h.lower + 1 ≡ suc h.lower = omega arith in
+            record {
+              answer = sym (simp (is-packet, ranges, le-leb _ _ within));
+              within = omega arith;
+              fills = λ t. simp (is-packet, ranges, one, le-leb _ _ fits) (filled-rising h.lower s h.top b t walked.1 count);
+            }
 
 -- a fault is the answer, and no record is filled
-pub refused : (s : List ℕ) (at n : ℕ) {x : ℕ} {f : Found} → fault x ≡ ack s at → (read_of f.answer ≡ fault x) × (f.count ≡ 0) → FindGives s at n f
-unfolding judged tabled filled_from
-refused s at n e u = record { answer = u.0 ∙ simp (← e); within = omega arith; fills = λ t. simp (← e, u.1) }
+pub refused : (s : List ℕ) (at n : ℕ) (x : Refusal) → fault (number_of x) ≡ ack s at → FindGives s at n (Err x)
+unfolding judged tabled
+refused s at n x e = record { answer = simp (← e); within = omega arith; fills = λ t. simp (← e) }

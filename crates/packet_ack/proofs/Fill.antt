@@ -6,15 +6,15 @@ use native.Mathlib.Omega.{arith}
 use native.Mathlib.Nat.{add-suc, suc-add}
 use lib.ListN.{length, set, length-reverse}
 use lib.Seq.{set_comm}
+use Rattle.std.specs.Prelude.{Result, Ok, Err}
+use Rattle.std.specs.Result.{result_unwrap_or}
 use Rattle.words.specs.Lists.{splice}
 use Rattle.words.specs.declared.Refusal.{Refusal}
 use Rattle.words.proofs.Splice.{splice-splice}
 use Rattle.octets.specs.Reader.{Res, ok, fault, then}
 use Rattle.packet_ack.specs.Ack.{Range, lower, lowers}
 use Rattle.packet_ack.specs.declared.Spot.{Spot}
-use Rattle.packet_ack.specs.declared.Lower.{Lower}
-use Rattle.packet_ack.specs.declared.Lower.TheVariants.{Whole, Refused}
-use Rattle.packet_ack.specs.Steps.{range, lower_of, spot_of, lower_spot_of, filled_from}
+use Rattle.packet_ack.specs.Steps.{lower_of, spot_of, lower_spot_of, filled_from}
 
 -- ---- two stores that don't meet may change places
 
@@ -74,9 +74,6 @@ filled-rising (suc k) s r at t {rs} e c =
 
 -- ---- the range below, as code finds it
 
-module _ (s : List ℕ) (c : Spot) {r : Lower} (e : lower_of r ≡ lower c.range.start s c.next) where
-  pub spot-refused : {x : Refusal} → r ≡ Refused x → c ≡ lower_spot_of s c
-  spot-refused m = simp (← e, m)
-
-  pub spot-whole : {start end next : ℕ} → r ≡ Whole start end next → spot (range start end) next ≡ lower_spot_of s c
-  spot-whole m = simp (← e, m)
+pub spot-below : (s : List ℕ) (c : Spot) (r : Result Spot Refusal) → lower_of r ≡ lower c.range.start s c.next → result_unwrap_or r c ≡ lower_spot_of s c
+spot-below s c (Ok d) e = simp (← e)
+spot-below s c (Err x) e = simp (← e)

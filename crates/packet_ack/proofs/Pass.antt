@@ -7,30 +7,31 @@ use native.Mathlib.Omega.{arith}
 use native.Mathlib.Nat.{sub-zero}
 use lib.Dec.{ltb}
 use lib.ListN.{length, length-append}
+use Rattle.std.specs.Prelude.{Option, Some}
 use Rattle.words.specs.Choice.{pick}
 use Rattle.words.specs.Lists.{all, reached}
 use Rattle.octets.specs.Varint.{var_len}
 use Rattle.octets.proofs.Back.{length-var}
 use Rattle.packet_ack.specs.Ack.{Range}
 use Rattle.packet_ack.specs.Write.{sayable, size_less_one, lowers_bytes}
-use Rattle.packet_ack.specs.Steps.{unjudged_in, begun, stepped, judged_next, falling_below, falling, range_len_of}
+use Rattle.packet_ack.specs.Steps.{unjudged_in, begun, stepped, judged_by, judged_next, falling_below, falling, range_len_of}
 use Rattle.packet_ack.specs.declared.Judgement.{Judgement}
 use Rattle.packet_ack.proofs.Falling.{whole}
 
 -- ---- one range more, as code finds its parts
 
 pub stepped-is : (j : Judgement) (r : Range) {s : Bool} {spare len gap apart : ℕ} → s ≡ sayable r → spare ≡ j.spare - len → len ≡ range_len_of gap r → gap ≡ apart - 1 → apart ≡ j.start - r.end
-    → record { first = false; sayable = j.sayable && s; rising = j.rising && ltb r.end j.start && ltb r.start r.end; top = j.top; start = r.start; spare = spare } ≡ stepped j r
+    → record { sayable = j.sayable && s; rising = j.rising && ltb r.end j.start && ltb r.start r.end; top = j.top; start = r.start; spare = spare } ≡ stepped j r
 unfolding stepped
 stepped-is j r a b c d e = simp (a, b, c, d, e)
 
 -- ---- the pass is one of steps, once the highest range is judged
 
-pub pass-steps : (j : Judgement) (rs : List Range) → j.first ≡ false → reached judged_next j rs ≡ reached stepped j rs
+pub pass-steps : (j : Judgement) (rs : List Range) {top : Range} → j.top ≡ Some top → reached judged_next j rs ≡ reached stepped j rs
 unfolding reached stepped
 pass-steps j [] e = refl
 pass-steps j (r ∷ rs) e =
-    ap (λ (b : Bool). reached judged_next (pick b (begun j.spare r) (stepped j r)) rs) e ∙ pass-steps (stepped j r) rs refl
+    ap (λ (o : Option Range). reached judged_next (judged_by o j r) rs) e ∙ pass-steps (stepped j r) rs e
 
 -- ---- what the pass reaches, field by field
 
@@ -82,7 +83,7 @@ module _ (room : ℕ) (r : Range) (rs : List Range) where
   unfolding begun
   judged-spare = pass-spare (begun room r) rs
 
-  pub judged-top : (reached stepped (begun room r) rs).top ≡ r
+  pub judged-top : (reached stepped (begun room r) rs).top ≡ Some r
   unfolding begun
   judged-top = pass-top (begun room r) rs
 

@@ -18,8 +18,9 @@ use Rattle.octets.specs.Varint.{var_bytes}
 use Rattle.octets.specs.Spelling.{Bytes}
 use Rattle.octets.proofs.Forms.{var-spelt, var-below}
 use Rattle.octets.proofs.Exact.{Here, here-front, here_back, here-fits, here-taken}
-use Rattle.packet_ack.specs.declared.AckRead.{AckRead}
-use Rattle.packet_ack.specs.declared.AckRead.TheVariants.{Whole, Refused}
+use Rattle.packet_ack.specs.declared.Ack as code
+use Rattle.std.specs.Prelude.{Result, Ok, Err}
+use Rattle.words.specs.declared.Refusal.{Refusal}
 use Rattle.packet_ack.specs.Ack.{Range, Ack, ack, Told, read_of}
 use Rattle.packet_ack.specs.Write.{size_less_one, sayable, rising, lowers_bytes, falling_bytes, ack_bytes, type_byte_of}
 use Rattle.packet_ack.specs.Layout.{Sized, sized, LowersSpelt, none_left, one_more, AckSpelt, packet}
@@ -146,13 +147,13 @@ module _ (seq : ℕ) (rs : List Range) (h : seq < LIMIT) (s : all sayable rs ≡
 
 -- ---- 6. one outcome only: two answers of the reader that meet one promise are equal (the promise of `find_ack` gives the table that is then filled; of `put_front`'s answer see octets)
 
-abbrev read_from : Res Told → AckRead
-read_from (ok p next) = Whole (record { sequence = record { 0 = p.sequence }; count = p.count }) next
-read_from (fault e) = Refused (refusal_of e)
+abbrev read_from : Res Told → Result (code.Ack × ℕ) Refusal
+read_from (ok p next) = Ok (record { sequence = record { 0 = p.sequence }; count = p.count }, next)
+read_from (fault e) = Err (refusal_of e)
 
-read-undone : (r : AckRead) → read_from (read_of r) ≡ r
-read-undone (Whole p next) = refl
-read-undone (Refused e) = ap Refused (refusal-undone e)
+read-undone : (r : Result (code.Ack × ℕ) Refusal) → read_from (read_of r) ≡ r
+read-undone (Ok (p, next)) = refl
+read-undone (Err e) = ap Err (refusal-undone e)
 
-pub one-read : {x : Res Told} (r q : AckRead) → read_of r ≡ x → read_of q ≡ x → r ≡ q
+pub one-read : {x : Res Told} (r q : Result (code.Ack × ℕ) Refusal) → read_of r ≡ x → read_of q ≡ x → r ≡ q
 one-read r q e f = told-apart read_of read_from read-undone r q (e ∙ sym f)

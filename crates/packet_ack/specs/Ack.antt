@@ -2,14 +2,14 @@
 --   4 Ack  v seq, v last value of the highest range, v its size less one, v ranges remaining; per lower range v gap, v size less one
 -- Ranges are half-open, rising, with at least one number missing between two. Gap = start of the range above, minus this
 -- range's end, minus 1. Assumes nothing.
-use Rattle.std.specs.Prelude.{ℕ, zero, suc, ◌+◌, ◌-◌, List, [], ◌∷◌, reverse, length, leb}
+use Rattle.std.specs.Prelude.{ℕ, zero, suc, ◌+◌, ◌-◌, List, [], ◌∷◌, reverse, length, leb, Result, Ok, Err}
 use Rattle.words.specs.Choice.{pick}
 use Rattle.words.specs.Lists.{splice}
 use Rattle.words.specs.Refusal.{number_of}
+use Rattle.words.specs.declared.Refusal.{Refusal}
 use Rattle.octets.specs.Reader.{Res, ok, fault, Reader, ◌>>=◌, ◌>>◌, give, need}
 use Rattle.octets.specs.Varint.{var}
-use Rattle.packet_ack.specs.declared.AckRead.{AckRead}
-use Rattle.packet_ack.specs.declared.AckRead.TheVariants.{Whole, Refused}
+use Rattle.packet_ack.specs.declared.Ack as code
 -- ---- the layout
 
 -- a range is the code's own record: the numbers from `start` up to, and without, `end`
@@ -81,6 +81,6 @@ told (fault e) = fault e
 
 -- ---- what the code's answer says
 
-abbrev pub read_of : AckRead → Res Told
-read_of (Whole p next) = ok (record { sequence = p.sequence.0; count = p.count }) next
-read_of (Refused e) = fault (number_of e)
+abbrev pub read_of : Result (code.Ack × ℕ) Refusal → Res Told
+read_of (Ok (p, next)) = ok (record { sequence = p.sequence.0; count = p.count }) next
+read_of (Err e) = fault (number_of e)

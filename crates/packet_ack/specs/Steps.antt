@@ -1,20 +1,17 @@
 -- What the private functions answer, and the ranges as a packet has them: from the highest down. Assumes nothing.
-use Rattle.std.specs.Prelude.{ℕ, zero, suc, ◌+◌, ◌-◌, ◌≤◌, ◌≡◌, Bool, true, false, ◌&&◌, List, [], ◌∷◌, ◌++◌, length, set, ltb, leb}
+use Rattle.std.specs.Prelude.{ℕ, zero, suc, ◌+◌, ◌-◌, ◌≤◌, ◌≡◌, Bool, true, false, ◌&&◌, List, [], ◌∷◌, ◌++◌, length, set, ltb, leb, Result, Ok, Err, Option, Some, None}
 use Rattle.words.specs.Sizes.{LIMIT}
 use Rattle.words.specs.Choice.{pick}
 use Rattle.words.specs.Lists.{splice, reached}
 use Rattle.words.specs.Refusal.{number_of}
+use Rattle.words.specs.declared.Refusal.{Refusal}
 use Rattle.octets.specs.Reader.{Res, ok, fault, Reader, ◌>>=◌, give}
 use Rattle.octets.specs.Writer.{put_of, left}
 use Rattle.octets.specs.Varint.{var, var_len, var_bytes}
 use Rattle.packet_ack.specs.Ack.{Range, sized, lower, ack, judged, tabled, told, read_of}
 use Rattle.packet_ack.specs.Write.{sayable, size_less_one, record_at, type_byte_of, lowers_bytes, listed, ack_bytes, put_ack}
-use Rattle.packet_ack.specs.declared.Lower.{Lower}
-use Rattle.packet_ack.specs.declared.Lower.TheVariants as lower_case
 use Rattle.packet_ack.specs.declared.Highest.{Highest}
-use Rattle.packet_ack.specs.declared.Highest.TheVariants as high_case
-use Rattle.packet_ack.specs.declared.Walk.{Walk}
-use Rattle.packet_ack.specs.declared.Walk.TheVariants as walk_case
+use Rattle.packet_ack.specs.declared.Ack as code
 use Rattle.packet_ack.specs.declared.Judgement.{Judgement}
 use Rattle.packet_ack.specs.declared.Spot.{Spot}
 use Rattle.packet_ack.specs.declared.Found.{Found}
@@ -26,9 +23,9 @@ range start end = record { start = start; end = end }
 
 -- ---- reading
 
-abbrev pub lower_of : Lower → Res Range
-lower_of (lower_case.Whole start end next) = ok (range start end) next
-lower_of (lower_case.Refused e) = fault (number_of e)
+abbrev pub lower_of : Result Spot Refusal → Res Range
+lower_of (Ok spot) = ok spot.range spot.next
+lower_of (Err e) = fault (number_of e)
 
 -- the highest range, and how many are lower
 pub record Top : Type 0 where
@@ -43,18 +40,18 @@ highest = do
   r ← sized last size
   give (record { top = r; lower = k })
 
-abbrev pub highest_of : Highest → Res Top
-highest_of (high_case.Whole start end k next) = ok (record { top = range start end; lower = k }) next
-highest_of (high_case.Refused e) = fault (number_of e)
+abbrev pub highest_of : Result Highest Refusal → Res Top
+highest_of (Ok h) = ok (record { top = h.top.range; lower = h.lower }) h.top.next
+highest_of (Err e) = fault (number_of e)
 
 -- where the lower ranges end
 abbrev pub ended : Res (List Range) → Res (Unit {0})
 ended (ok rs next) = ok tt next
 ended (fault e) = fault e
 
-abbrev pub walk_of : Walk → Res (Unit {0})
-walk_of (walk_case.Until next) = ok tt next
-walk_of (walk_case.Refused e) = fault (number_of e)
+abbrev pub walk_of : Result ℕ Refusal → Res (Unit {0})
+walk_of (Ok next) = ok tt next
+walk_of (Err e) = fault (number_of e)
 
 -- the range below one that is read, and the place after it
 abbrev pub spot_of : Spot → Res Range → Spot
@@ -69,11 +66,24 @@ unfoldable pub filled_from : ℕ → List ℕ → Spot → List Range → List R
 filled_from zero s c t = t
 filled_from (suc k) s c t = filled_from k s (lower_spot_of s c) (set t k c.range)
 
+-- of what is found: the answer, how many records are to be filled, and the table t once they are; none where a packet is refused
+abbrev pub answer_of : Result Found Refusal → Result (code.Ack × ℕ) Refusal
+answer_of (Ok f) = Ok (f.ack, f.next)
+answer_of (Err e) = Err e
+
+abbrev pub count_of : Result Found Refusal → ℕ
+count_of (Ok f) = f.ack.count
+count_of (Err e) = 0
+
+abbrev pub table_of : Result Found Refusal → List ℕ → List Range → List Range
+table_of (Ok f) s t = filled_from f.ack.count s f.top t
+table_of (Err e) s t = t
+
 -- what is found for a table of so many records: the answer; and filling it from there makes the table that the definition says, of any table
-pub record FindGives (s : List ℕ) (at room : ℕ) (f : Found) : Type 0 where
-  pub answer : read_of f.answer ≡ told (judged (ack s at) room)
-  pub within : f.count ≤ room
-  pub fills : (t : List Range) → filled_from f.count s f.top t ≡ tabled (judged (ack s at) room) t
+pub record FindGives (s : List ℕ) (at room : ℕ) (f : Result Found Refusal) : Type 0 where
+  pub answer : read_of (answer_of f) ≡ told (judged (ack s at) room)
+  pub within : count_of f ≤ room
+  pub fills : (t : List Range) → table_of f s t ≡ tabled (judged (ack s at) room) t
 
 -- ---- writing
 
@@ -128,16 +138,15 @@ pub record Writable (t : List Range) (n : ℕ) (p : Pen) (m : ℕ) : Type 0 wher
 
 -- nothing is judged, and there is some room
 abbrev pub unjudged_in : ℕ → Judgement
-unjudged_in room = record { first = true; sayable = true; rising = false; top = range 0 0; start = 0; spare = room }
+unjudged_in room = record { sayable = true; rising = false; top = None; start = 0; spare = room }
 
 -- what is known once the highest range is judged
 unfoldable pub begun : ℕ → Range → Judgement
 begun room r =
     record {
-      first = false;
       sayable = sayable r;
       rising = ltb r.start r.end;
-      top = r;
+      top = Some r;
       start = r.start;
       spare = room - range_len_of (r.end - 1) r;
     }
@@ -146,7 +155,6 @@ begun room r =
 unfoldable pub stepped : Judgement → Range → Judgement
 stepped j r =
     record {
-      first = false;
       sayable = j.sayable && sayable r;
       rising = j.rising && ltb r.end j.start && ltb r.start r.end;
       top = j.top;
@@ -154,8 +162,13 @@ stepped j r =
       spare = j.spare - range_len_of (j.start - r.end - 1) r;
     }
 
+-- by the highest one so far, if any
+abbrev pub judged_by : Option Range → Judgement → Range → Judgement
+judged_by None j r = begun j.spare r
+judged_by (Some top) j r = stepped j r
+
 abbrev pub judged_next : Judgement → Range → Judgement
-judged_next j r = pick j.first (begun j.spare r) (stepped j r)
+judged_next j r = judged_by j.top j r
 
 -- how many ranges are judged: none, where the table doesn't hold so many
 abbrev pub to_judge : ℕ → ℕ → ℕ
@@ -173,11 +186,24 @@ pub record JudgedOf (j : Judgement) (count held room : ℕ) : Type 0 where
 
 -- ---- all but the lower ranges, written
 
--- for any table that was judged so: the answer; the lower ranges can be written; and writing them makes the bytes that the definition says
-pub record FrontOf (seq count at : ℕ) (t : List Range) (out out' : List ℕ) (f : Front) : Type 0 where
-  pub answer : put_of f.answer ≡ put_ack seq t count at (length out)
-  pub writable : Writable t f.left f.pen (length out)
-  pub wrote : splice f.pen.at (lowers_bytes f.pen.above (below t f.left)) out' ≡ left (put_of f.answer) at (ack_bytes seq (listed t 0 count)) out
+-- of what is written: the place after the packet; whether the rest can be written to m bytes; and the bytes once it is. A refusal leaves no rest
+abbrev pub end_of : Result Front Refusal → Result ℕ Refusal
+end_of (Ok f) = Ok f.next
+end_of (Err e) = Err e
 
-abbrev pub FrontGives : ℕ → ℕ → ℕ → ℕ → Judgement → List ℕ → List ℕ → Front → Type 0
+abbrev pub RestWritable : Result Front Refusal → List Range → ℕ → Type 0
+RestWritable (Ok f) t m = Writable t f.left f.pen m
+RestWritable (Err e) t m = Unit {0}
+
+abbrev pub rest_wrote : Result Front Refusal → List Range → List ℕ → List ℕ
+rest_wrote (Ok f) t out = splice f.pen.at (lowers_bytes f.pen.above (below t f.left)) out
+rest_wrote (Err e) t out = out
+
+-- for any table that was judged so: the answer; the lower ranges can be written; and writing them makes the bytes that the definition says
+pub record FrontOf (seq count at : ℕ) (t : List Range) (out out' : List ℕ) (f : Result Front Refusal) : Type 0 where
+  pub answer : put_of (end_of f) ≡ put_ack seq t count at (length out)
+  pub writable : RestWritable f t (length out)
+  pub wrote : rest_wrote f t out' ≡ left (put_of (end_of f)) at (ack_bytes seq (listed t 0 count)) out
+
+abbrev pub FrontGives : ℕ → ℕ → ℕ → ℕ → Judgement → List ℕ → List ℕ → Result Front Refusal → Type 0
 FrontGives seq count held at j out out' f = (t : List Range) → length t ≡ held → j ≡ judged_in t count (length out - at) → FrontOf seq count at t out out' f

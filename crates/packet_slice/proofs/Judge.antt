@@ -18,22 +18,22 @@ use Rattle.packet_slice.proofs.Wrote.{length-slice}
 
 -- ---- numbers that are too large, as code meets them one after the other
 
-module _ (v : ℕ) where
-  pub large-here : (vs : List ℕ) → LIMIT ≤ v → true ≡ any_large (v ∷ vs)
+module _ (v : ℕ) (vs : List ℕ) where
+  pub large-here : LIMIT ≤ v → any_large (v ∷ vs) ≡ true
   unfolding any_large
-  large-here vs h = simp (le-leb _ _ h)
+  large-here h = simp (le-leb _ _ h)
 
-  pub large-later : (vs : List ℕ) {r : Bool} → v < LIMIT → r ≡ any_large vs → r ≡ any_large (v ∷ vs)
+  pub large-later : any_large vs ≡ true → any_large (v ∷ vs) ≡ true
   unfolding any_large
-  large-later vs h e = simp (lt-leb _ _ h) e
-
-  pub large-last : leb LIMIT v ≡ any_large (v ∷ [])
-  unfolding any_large
-  large-last = same (leb LIMIT v)
+  large-later e = rw e (same (leb LIMIT v))
     where
-      same : (t : Bool) → t ≡ pick t true false
+      same : (t : Bool) → pick t true true ≡ true
       same true = refl
       same false = refl
+
+pub all_small : (p : Slice) → p.sequence < LIMIT → p.id < LIMIT → p.index < LIMIT → p.num-slices < LIMIT → p.len < LIMIT → too_large_of p ≡ false
+unfolding any_large
+all_small p a b c d e = simp (lt-leb _ _ a, lt-leb _ _ b, lt-leb _ _ c, lt-leb _ _ d, lt-leb _ _ e)
 
 -- ---- the answers
 
@@ -54,10 +54,6 @@ none-large (v ∷ vs) e =
     (leb-false LIMIT v n.0, none-large vs n.1)
 
 module _ (p : Slice) (e : too_large_of p ≡ false) where
-  pub len-said : p.len < LIMIT
-  unfolding All
-  len-said = (none-large _ e).1.1.1.1.0
-
   -- what was judged may be written
   pub may_write : (k at m : ℕ) → p.place + p.len ≤ k → at + slice_len_of p ≤ m → Judged p k at m
   unfolding All

@@ -1,66 +1,55 @@
 -- `front`, `label` and `slice` at each of their cases, in the terms in which code meets them. Assumes nothing.
 use Prim.Native.Nat.{ℕ, ◌+◌, ◌≤◌, ◌<◌}
-use mathlib.Core.Path.{◌≡◌, refl, sym, ap, ◌∙◌}
+use mathlib.Core.Path.{◌≡◌, refl}
 use mathlib.Core.Bool.{Bool, true, false}
 use mathlib.Core.List.{List}
 use borrow.Author.Tests.{lt-ltb, le-ltb, le-leb, lt-leb}
 use lib.ListN.{length, get_or}
 use lib.Dec.{leb}
 use Rattle.words.specs.Sizes.{SLICE_SIZE, MAX_NUM_SLICES}
-use Rattle.octets.specs.Reader.{Res, ok, fault, then, Reader, ◌>>=◌, ◌>>◌, give, num_of, need, byte}
-use Rattle.octets.specs.Varint.{Part, var, run, run_of}
-use Rattle.octets.specs.declared.Got.{Got}
-use Rattle.octets.specs.declared.Got.TheVariants as got
-use Rattle.octets.specs.declared.Run.{Run}
-use Rattle.octets.specs.declared.Run.TheVariants as ran
+use Rattle.octets.specs.Reader.{Res, ok, fault, then, Reader, ◌>>=◌, ◌>>◌, give, need, byte}
+use Rattle.octets.specs.Varint.{Part, var, run}
 use Rattle.octets.proofs.Reader.{Lands, landed, lands-then, keeps_then, keep, give-keeps, var-lands, bytes-lands}
-use Rattle.words.specs.declared.Sequence.{Sequence}
-use Rattle.words.specs.declared.MessageId.{MessageId}
-use Rattle.words.specs.declared.SliceIndex.{SliceIndex}
-use Rattle.packet_slice.specs.declared.Front.{Front}
-use Rattle.packet_slice.specs.declared.Front.TheVariants as front-is
-use Rattle.packet_slice.specs.declared.Label.{Label}
-use Rattle.packet_slice.specs.declared.Label.TheVariants as Label-is
 use Rattle.packet_slice.specs.Slice.{Slice, payload, slice}
 use Rattle.packet_slice.specs.Layout.{Payload}
-use Rattle.packet_slice.specs.Steps.{front, front_of, label, label_of}
+use Rattle.packet_slice.specs.Steps.{front, label}
 
 -- ---- the sequence and the channel
 
-module _ (s : List ℕ) (at : ℕ) {r : Got} (e : num_of r ≡ var s at) where
-  pub no-sequence : r ≡ got.Short → fault 1 ≡ front s at
+module _ (s : List ℕ) (at : ℕ) where
+  pub no-sequence : {x : ℕ} → fault x ≡ var s at → fault x ≡ front s at
   unfolding front
-  no-sequence m = simp (← e, m)
+  no-sequence e = simp (← e)
 
-  module _ {seq a : ℕ} (m : r ≡ got.Value seq a) where
+  module _ {seq a : ℕ} (e : ok seq a ≡ var s at) where
     pub no-channel : length s ≤ a → fault 1 ≡ front s at
     unfolding front byte
-    no-channel h = simp (← e, m, le-ltb _ _ h)
+    no-channel h = simp (← e, le-ltb _ _ h)
 
     pub front-there : a < length s → ok (seq, get_or s a 0) (a + 1) ≡ front s at
     unfolding front byte
-    front-there h = simp (← e, m, lt-ltb _ _ h)
+    front-there h = simp (← e, lt-ltb _ _ h)
 
 -- ---- the id, the index and the number of slices
 
-module _ (s : List ℕ) (at : ℕ) {r : Got} (e : num_of r ≡ var s at) where
-  pub no-id : r ≡ got.Short → fault 1 ≡ label s at
+module _ (s : List ℕ) (at : ℕ) where
+  pub no-id : {x : ℕ} → fault x ≡ var s at → fault x ≡ label s at
   unfolding label
-  no-id m = simp (← e, m)
+  no-id e = simp (← e)
 
-  module _ {id a : ℕ} (m : r ≡ got.Value id a) {r1 : Got} (e1 : num_of r1 ≡ var s a) where
-    pub no_index : r1 ≡ got.Short → fault 1 ≡ label s at
+  module _ {id a : ℕ} (e : ok id a ≡ var s at) where
+    pub no_index : {x : ℕ} → fault x ≡ var s a → fault x ≡ label s at
     unfolding label
-    no_index m1 = simp (← e, m, ← e1, m1)
+    no_index e1 = simp (← e, ← e1)
 
-    module _ {index b : ℕ} (m1 : r1 ≡ got.Value index b) {r2 : Got} (e2 : num_of r2 ≡ var s b) where
-      pub no-count : r2 ≡ got.Short → fault 1 ≡ label s at
+    module _ {index b : ℕ} (e1 : ok index b ≡ var s a) where
+      pub no-count : {x : ℕ} → fault x ≡ var s b → fault x ≡ label s at
       unfolding label
-      no-count m2 = simp (← e, m, ← e1, m1, ← e2, m2)
+      no-count e2 = simp (← e, ← e1, ← e2)
 
-      pub label-there : {n c : ℕ} → r2 ≡ got.Value n c → ok (id, index, n) c ≡ label s at
+      pub label-there : {n c : ℕ} → ok n c ≡ var s b → ok (id, index, n) c ≡ label s at
       unfolding label
-      label-there m2 = simp (← e, m, ← e1, m1, ← e2, m2)
+      label-there e2 = simp (← e, ← e1, ← e2)
 
 -- ---- the packet: its steps, and its cases
 
@@ -87,8 +76,8 @@ run-lands : Lands Part run
 unfolding run
 run-lands = lands-then var-lands (λ n. keeps_then (keep (bytes-lands n)) (λ b. give-keeps _))
 
-pub payload-end : (s : List ℕ) (at : ℕ) {r : Run} → run_of r ≡ run s at → {place len : ℕ} → r ≡ ran.At place len → place + len ≤ length s
-payload-end s at e m = landed run-lands s at (sym (ap run_of m) ∙ e)
+pub payload-end : (s : List ℕ) (at : ℕ) {p : Part} {next : ℕ} → ok p next ≡ run s at → next ≤ length s
+payload-end s at e = landed run-lands s at e
 
 pub judged : (reliable : Bool) (n : ℕ) → reliable ≡ true → 1 ≤ n → n ≤ SLICE_SIZE → Payload reliable n
 judged reliable n t i j = rw t (i, j)
@@ -101,41 +90,40 @@ module _ (reliable : Bool) (s : List ℕ) (at : ℕ) where
   unfolding slice front label tail
   steps = fuse (var s at) _ _ _ (λ seq a. fuse (byte s a) _ _ _ (λ channel b. fuse (var s b) _ _ _ (λ id c. fuse (var s c) _ _ _ (λ index d. fuse (var s d) _ _ _ (λ n e. refl)))))
 
-  module _ {f : Front} (e0 : front_of f ≡ front s at) where
-    pub no_front : f ≡ front-is.Short → fault 1 ≡ slice reliable s at
-    no_front m = rw (← steps) (simp (← e0, m))
+  pub no_front : {x : ℕ} → fault x ≡ front s at → fault x ≡ slice reliable s at
+  no_front e0 = rw (← steps) (simp (← e0))
 
-    module _ {seq : Sequence} {channel a : ℕ} (m0 : f ≡ front-is.Read seq channel a) {l : Label} (e1 : label_of l ≡ label s a) where
-      pub no_label : l ≡ Label-is.Short → fault 1 ≡ slice reliable s at
-      no_label m = rw (← steps) (simp (← e0, m0, ← e1, m))
+  module _ {seq channel a : ℕ} (e0 : ok (seq, channel) a ≡ front s at) where
+    pub no_label : {x : ℕ} → fault x ≡ label s a → fault x ≡ slice reliable s at
+    no_label e1 = rw (← steps) (simp (← e0, ← e1))
 
-      module _ {id : MessageId} {index : SliceIndex} {n b : ℕ} (m1 : l ≡ Label-is.Read id index n b) where
-        named : tail reliable (seq.0, channel) (id.0, index.0, n) s b ≡ slice reliable s at
-        named = rw (← steps) (simp (← e0, m0, ← e1, m1))
+    module _ {id index n b : ℕ} (e1 : ok (id, index, n) b ≡ label s a) where
+      named : tail reliable (seq, channel) (id, index, n) s b ≡ slice reliable s at
+      named = rw (← steps) (simp (← e0, ← e1))
 
-        pub count-zero : n < 1 → fault 2 ≡ slice reliable s at
+      pub count-zero : n < 1 → fault 2 ≡ slice reliable s at
+      unfolding tail need
+      count-zero h = rw (← named) (simp (lt-leb _ _ h))
+
+      pub count-above : 1 ≤ n → MAX_NUM_SLICES < n → fault 2 ≡ slice reliable s at
+      unfolding tail need
+      count-above h k = rw (← named) (simp (le-leb _ _ h, lt-leb _ _ k))
+
+      module _ (h : 1 ≤ n) (k : n ≤ MAX_NUM_SLICES) where
+        pub no_payload : {x : ℕ} → fault x ≡ run s b → fault x ≡ slice reliable s at
         unfolding tail need
-        count-zero h = rw (← named) (simp (lt-leb _ _ h))
+        no_payload e2 = rw (← named) (simp (le-leb _ _ h, le-leb _ _ k, ← e2))
 
-        pub count-above : 1 ≤ n → MAX_NUM_SLICES < n → fault 2 ≡ slice reliable s at
-        unfolding tail need
-        count-above h k = rw (← named) (simp (le-leb _ _ h, lt-leb _ _ k))
+        module _ {place len next : ℕ} (e2 : ok (record { place = place; len = len }) next ≡ run s b) where
+          pub payload-empty : reliable ≡ true → len < 1 → fault 4 ≡ slice reliable s at
+          unfolding tail need payload
+          payload-empty t j = rw (← named) (simp (le-leb _ _ h, le-leb _ _ k, ← e2, t, lt-leb _ _ j))
 
-        module _ (h : 1 ≤ n) (k : n ≤ MAX_NUM_SLICES) {r : Run} (e2 : run_of r ≡ run s b) where
-          pub no_payload : r ≡ ran.Short → fault 1 ≡ slice reliable s at
+          pub payload-above : reliable ≡ true → 1 ≤ len → SLICE_SIZE < len → fault 3 ≡ slice reliable s at
+          unfolding tail need payload
+          payload-above t i j = rw (← named) (simp (le-leb _ _ h, le-leb _ _ k, ← e2, t, le-leb _ _ i, lt-leb _ _ j))
+
+          pub payload-there : Payload reliable len
+              → ok (record { sequence = seq; channel = channel; id = id; index = index; num-slices = n; place = place; len = len }) next ≡ slice reliable s at
           unfolding tail need
-          no_payload m = rw (← named) (simp (le-leb _ _ h, le-leb _ _ k, ← e2, m))
-
-          module _ {place len : ℕ} (m2 : r ≡ ran.At place len) where
-            pub payload-empty : reliable ≡ true → len < 1 → fault 4 ≡ slice reliable s at
-            unfolding tail need payload
-            payload-empty t j = rw (← named) (simp (le-leb _ _ h, le-leb _ _ k, ← e2, m2, t, lt-leb _ _ j))
-
-            pub payload-above : reliable ≡ true → 1 ≤ len → SLICE_SIZE < len → fault 3 ≡ slice reliable s at
-            unfolding tail need payload
-            payload-above t i j = rw (← named) (simp (le-leb _ _ h, le-leb _ _ k, ← e2, m2, t, le-leb _ _ i, lt-leb _ _ j))
-
-            pub payload-there : Payload reliable len
-                → ok (record { sequence = seq.0; channel = channel; id = id.0; index = index.0; num-slices = n; place = place; len = len }) (place + len) ≡ slice reliable s at
-            unfolding tail need
-            payload-there j = rw (← named) (simp (le-leb _ _ h, le-leb _ _ k, ← e2, m2, payload-fits reliable len s (place + len) j))
+          payload-there j = rw (← named) (simp (le-leb _ _ h, le-leb _ _ k, ← e2, payload-fits reliable len s next j))

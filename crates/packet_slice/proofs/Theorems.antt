@@ -16,19 +16,12 @@ use Rattle.words.proofs.Unique.{told-apart, refusal_of, refusal-undone}
 use Rattle.octets.specs.Reader.{Res, ok, fault}
 use Rattle.octets.specs.Writer.{done, put_of, left}
 use Rattle.octets.specs.Spelling.{Bytes}
-use Rattle.octets.specs.declared.Put.{Put}
-use Rattle.octets.specs.declared.Run.{Run}
-use Rattle.octets.specs.declared.Run.TheVariants as ran
+use Rattle.std.specs.Prelude.{Result, Ok, Err}
+use Rattle.words.specs.declared.Refusal.{Refusal}
 use Rattle.octets.proofs.Forms.{var-spelt, run-spelt}
 use Rattle.octets.proofs.Theorems as octets
 use Rattle.octets.proofs.Exact.{Here, here-fits, here-taken}
-use Rattle.packet_slice.specs.declared.Front.{Front}
-use Rattle.packet_slice.specs.declared.Front.TheVariants as front-is
-use Rattle.packet_slice.specs.declared.Label.{Label}
-use Rattle.packet_slice.specs.declared.Label.TheVariants as Label-is
 use Rattle.packet_slice.specs.declared.Slice as code
-use Rattle.packet_slice.specs.declared.SliceRead.{SliceRead}
-use Rattle.packet_slice.specs.declared.SliceRead.TheVariants as read
 use Rattle.packet_slice.specs.Slice.{Slice, slice, read_of}
 use Rattle.packet_slice.specs.Write.{SliceSaid, type_byte_of, slice_bytes, slice_said, put_slice_of}
 use Rattle.packet_slice.specs.Layout.{Payload, SliceSpelt, packet}
@@ -119,31 +112,21 @@ module _ (s : List ℕ) (at : ℕ) (q : List ℕ) (reliable : Bool) (said : Slic
   m : Met s (at + 1) said
   m = met s at q reliable said w e
 
-  -- what the code has after each of its three readings
-  abbrev f : Front
-  f = front-is.Read (record { 0 = said.sequence }) said.channel m.a
-
-  abbrev l : Label
-  l = Label-is.Read (record { 0 = said.id }) (record { 0 = said.index }) said.num-slices m.b
-
-  abbrev r : Run
-  r = ran.At m.place (length said.bytes)
-
   -- 2 for a number of slices that is 0 or above the largest
   pub number-refused : (said.num-slices < 1) ⊎ (MAX_NUM_SLICES < said.num-slices) → slice reliable s (at + 1) ≡ fault 2
   number-refused h =
-      sym (⊎_elim (λ k. count-zero reliable s (at + 1) {f = f} m.front-met refl {l = l} m.label-met refl k)
-      (λ k. count-above reliable s (at + 1) {f = f} m.front-met refl {l = l} m.label-met refl (omega arith) k)
+      sym (⊎_elim (λ k. count-zero reliable s (at + 1) m.front-met m.label-met k)
+      (λ k. count-above reliable s (at + 1) m.front-met m.label-met (omega arith) k)
       h)
 
   module _ (t : reliable ≡ true) (some : 1 ≤ said.num-slices) (few : said.num-slices ≤ MAX_NUM_SLICES) where
     -- 4 for an empty payload of type 2
     pub empty-refused : length said.bytes < 1 → slice reliable s (at + 1) ≡ fault 4
-    empty-refused h = sym (payload-empty reliable s (at + 1) {f = f} m.front-met refl {l = l} m.label-met refl some few {r = r} m.run-met refl t h)
+    empty-refused h = sym (payload-empty reliable s (at + 1) m.front-met m.label-met some few m.run-met t h)
 
     -- 3 for one above 1,200
     pub long-refused : SLICE_SIZE < length said.bytes → slice reliable s (at + 1) ≡ fault 3
-    long-refused h = sym (payload-above reliable s (at + 1) {f = f} m.front-met refl {l = l} m.label-met refl some few {r = r} m.run-met refl t (omega arith) h)
+    long-refused h = sym (payload-above reliable s (at + 1) m.front-met m.label-met some few m.run-met t (omega arith) h)
 
 -- ---- one outcome only
 
@@ -159,23 +142,23 @@ slice_from p =
       len = p.len;
     }
 
-abbrev read_from : Res Slice → SliceRead
-read_from (ok p next) = read.Whole (slice_from p) next
-read_from (fault e) = read.Refused (refusal_of e)
+abbrev read_from : Res Slice → Result (code.Slice × ℕ) Refusal
+read_from (ok p next) = Ok (slice_from p, next)
+read_from (fault e) = Err (refusal_of e)
 
-read-undone : (r : SliceRead) → read_from (read_of r) ≡ r
-read-undone (read.Whole p next) = refl
-read-undone (read.Refused e) = ap read.Refused (refusal-undone e)
+read-undone : (r : Result (code.Slice × ℕ) Refusal) → read_from (read_of r) ≡ r
+read-undone (Ok (p, next)) = refl
+read-undone (Err e) = ap Err (refusal-undone e)
 
 -- the promise of `read_slice` admits one answer
-pub one-read : (reliable : Bool) (s : List ℕ) (at : ℕ) (r q : SliceRead) → read_of r ≡ slice reliable s at → read_of q ≡ slice reliable s at → r ≡ q
+pub one-read : (reliable : Bool) (s : List ℕ) (at : ℕ) (r q : Result (code.Slice × ℕ) Refusal) → read_of r ≡ slice reliable s at → read_of q ≡ slice reliable s at → r ≡ q
 one-read reliable s at r q e f = told-apart read_of read_from read-undone r q (e ∙ sym f)
 
 -- and that of `put_slice` one answer and one buffer
 module _ (reliable : Bool) (p : Slice) (store : List ℕ) (at : ℕ) (out : List ℕ) where
-  pub record Put-slice (r : Put) (after : List ℕ) : Type 0 where
+  pub record Put-slice (r : Result ℕ Refusal) (after : List ℕ) : Type 0 where
     pub answers : put_of r ≡ put_slice_of reliable p store at (length out)
     pub leaves : after ≡ left (put_of r) at (slice_bytes reliable (slice_said store p)) out
 
-  pub one-put : (r q : Put) (a b : List ℕ) → Put-slice r a → Put-slice q b → (r ≡ q) × (a ≡ b)
+  pub one-put : (r q : Result ℕ Refusal) (a b : List ℕ) → Put-slice r a → Put-slice q b → (r ≡ q) × (a ≡ b)
   one-put r q a b x y = (octets.one-put r q x.answers y.answers, octets.one_left at _ out r q x.answers y.answers x.leaves y.leaves)

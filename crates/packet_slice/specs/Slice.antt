@@ -2,14 +2,13 @@
 --   2 ReliableSlice    v seq, channel byte, v id, v slice index, v num_slices, v length, bytes
 --   3 UnreliableSlice  as 2
 -- `reliable` tells the two apart. Assumes nothing.
-use Rattle.std.specs.Prelude.{ℕ, Bool, true, false, leb}
+use Rattle.std.specs.Prelude.{ℕ, Bool, true, false, leb, Result, Ok, Err}
 use Rattle.words.specs.Sizes.{SLICE_SIZE, MAX_NUM_SLICES}
 use Rattle.words.specs.Refusal.{number_of}
 use Rattle.octets.specs.Reader.{Res, ok, fault, Reader, ◌>>=◌, ◌>>◌, give, need, byte}
 use Rattle.octets.specs.Varint.{var, run}
 use Rattle.packet_slice.specs.declared.Slice as code
-use Rattle.packet_slice.specs.declared.SliceRead.{SliceRead}
-use Rattle.packet_slice.specs.declared.SliceRead.TheVariants.{Whole, Refused}
+use Rattle.words.specs.declared.Refusal.{Refusal}
 
 pub record Slice : Type 0 where
   pub sequence : ℕ
@@ -55,6 +54,6 @@ slice_of p =
       len = p.len;
     }
 
-abbrev pub read_of : SliceRead → Res Slice
-read_of (Whole p next) = ok (slice_of p) next
-read_of (Refused e) = fault (number_of e)
+abbrev pub read_of : Result (code.Slice × ℕ) Refusal → Res Slice
+read_of (Ok (p, next)) = ok (slice_of p) next
+read_of (Err e) = fault (number_of e)

@@ -1,15 +1,15 @@
 -- The steps in which the code reads and writes a packet of one piece, for the contracts of the functions that `read_slice` and `put_slice` call. Assumes nothing.
-use Rattle.std.specs.Prelude.{ℕ, ◌+◌, ◌≤◌, ◌<◌, Bool, true, false, List, [], ◌∷◌, ◌++◌, leb}
+use Rattle.std.specs.Prelude.{ℕ, ◌+◌, ◌≤◌, ◌<◌, Bool, true, false, List, [], ◌∷◌, ◌++◌, leb, Result, Ok, Err}
 use Rattle.words.specs.Sizes.{LIMIT}
 use Rattle.words.specs.Choice.{pick}
 use Rattle.octets.specs.Reader.{Res, ok, fault, Reader, ◌>>=◌, give, byte}
 use Rattle.octets.specs.Varint.{var, var_len, var_bytes}
 use Rattle.packet_slice.specs.Slice.{Slice}
 use Rattle.packet_slice.specs.Write.{type_byte_of}
-use Rattle.packet_slice.specs.declared.Front as Front
-use Rattle.packet_slice.specs.declared.Front.TheVariants as front-is
-use Rattle.packet_slice.specs.declared.Label as Label
-use Rattle.packet_slice.specs.declared.Label.TheVariants as Label-is
+use Rattle.words.specs.Refusal.{number_of}
+use Rattle.words.specs.declared.Refusal.{Refusal}
+use Rattle.packet_slice.specs.declared.Front.{Front}
+use Rattle.packet_slice.specs.declared.Label.{Label}
 
 -- ---- reading
 
@@ -28,13 +28,13 @@ label = do
   n ← var
   give (id, index, n)
 
-abbrev pub front_of : Front.Front → Res (ℕ × ℕ)
-front_of (front-is.Read seq channel next) = ok (seq.0, channel) next
-front_of front-is.Short = fault 1
+abbrev pub front_of : Result (Front × ℕ) Refusal → Res (ℕ × ℕ)
+front_of (Ok (f, next)) = ok (f.sequence.0, f.channel_id) next
+front_of (Err e) = fault (number_of e)
 
-abbrev pub label_of : Label.Label → Res (ℕ × ℕ × ℕ)
-label_of (Label-is.Read id index n next) = ok (id.0, index.0, n) next
-label_of Label-is.Short = fault 1
+abbrev pub label_of : Result (Label × ℕ) Refusal → Res (ℕ × ℕ × ℕ)
+label_of (Ok (l, next)) = ok (l.message_id.0, l.slice_index.0, l.num_slices) next
+label_of (Err e) = fault (number_of e)
 
 -- ---- writing
 

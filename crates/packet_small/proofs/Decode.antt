@@ -1,36 +1,18 @@
 -- `small` at each of its cases, and what is told and tabled then. Assumes nothing.
 use Prim.Native.Nat.{ℕ, zero, suc, ◌+◌, ◌*◌, ◌/◌, ◌≤◌, ◌<◌}
 use mathlib.Core.Path.{◌≡◌, refl, sym, ap, ◌∙◌, subst}
-use mathlib.Core.Bool.{Bool, true, false}
+use mathlib.Core.Bool.{Bool}
 use mathlib.Core.List.{List, ◌∷◌}
 use native.Mathlib.Omega.{arith}
 use borrow.Author.Tests.{lt-ltb, le-ltb, le-leb, lt-leb}
 use lib.ListN.{length, get_or}
-use Rattle.octets.specs.Reader.{Res, ok, fault, then, Good, num_of, byte, pair}
-use Rattle.octets.specs.Varint.{var, run}
-use Rattle.octets.specs.declared.Got.{Got}
-use Rattle.octets.specs.declared.Got.TheVariants.{Value, Short}
-use Rattle.octets.proofs.Reader.{Cuts, Cut1, give-cuts, cuts-then, bytes-cuts, var-cuts}
-use Rattle.packet_small.specs.declared.Walk.{Walk}
-use Rattle.packet_small.specs.declared.Walk.TheVariants.{Until, Lost}
+use Rattle.octets.specs.Reader.{Res, ok, fault, then, Good, byte, pair}
+use Rattle.octets.specs.Varint.{var}
+use Rattle.octets.specs.Writer.{done, refused}
 use Rattle.packet_small.specs.Small.{Message, Small, message, messages, small, RECORD, judged, tabled, told}
 use Rattle.packet_small.specs.Steps.{walk_of, filled}
 
--- ---- the number of the messages, and their only fault
-
-run-cuts : Cuts _ run
-unfolding run
-run-cuts = cuts-then var-cuts (λ n. cuts-then (bytes-cuts n) (λ b. give-cuts _))
-
-message-cuts : (ids : Bool) → Cuts Message (message ids)
-unfolding message
-message-cuts true = cuts-then var-cuts (λ id. cuts-then run-cuts (λ p. give-cuts _))
-message-cuts false = cuts-then {B = Message} run-cuts (λ p. give-cuts _)
-
-messages-cuts : (ids : Bool) (k : ℕ) → Cuts (List Message) (messages ids k)
-unfolding messages
-messages-cuts ids zero = give-cuts _
-messages-cuts ids (suc k) = cuts-then (message-cuts ids) (λ m. cuts-then (messages-cuts ids k) (λ ms. give-cuts _))
+-- ---- the number of the messages
 
 abbrev pub Counts : ℕ → Res (List Message) → Type 0
 Counts k (ok ms next) = length ms ≡ k
@@ -51,88 +33,87 @@ messages-count ids zero s at = refl
 messages-count ids (suc k) s at = count-first ids k s (message ids s at) (messages-count ids k s)
 
 -- how a walk ended tells what the messages are
-lost : {B : Type 0} (r : Res (List Message)) (f : List Message → ℕ → Res B) → Cut1 r → Lost ≡ walk_of r → fault 1 ≡ then r f
-lost (ok ms next) f c e = let z : ◌≡◌ {A = ℕ} 0 1 = cc in absurd (omega arith)
-lost (fault x) f c e = ap fault (sym c)
+lost : {B : Type 0} (r : Res (List Message)) (f : List Message → ℕ → Res B) {x : ℕ} → refused x ≡ walk_of r → fault x ≡ then r f
+lost (ok ms next) f e = let z : ◌≡◌ {A = ℕ} 0 1 = cc in absurd (omega arith)
+lost (fault x) f e = cc
 
-until : (r : Res (List Message)) {end : ℕ} → Until end ≡ walk_of r → (ms : List Message) × (r ≡ ok ms end)
+until : (r : Res (List Message)) {end : ℕ} → done end ≡ walk_of r → (ms : List Message) × (r ≡ ok ms end)
 until (ok ms next) e = (ms, cc)
 until (fault x) e = let z : ◌≡◌ {A = ℕ} 0 1 = cc in absurd (omega arith)
 
 -- ---- cases
 
-module _ (ids : Bool) (s : List ℕ) (at : ℕ) {r : Got} (e : num_of r ≡ var s at) where
-  pub no-seq : r ≡ Short → fault 1 ≡ small ids s at
+module _ (ids : Bool) (s : List ℕ) (at : ℕ) where
+  pub no-seq : {x : ℕ} → fault x ≡ var s at → fault x ≡ small ids s at
   unfolding small
-  no-seq m = simp (← e, m)
+  no-seq e = simp (← e)
 
-  module _ {seq a : ℕ} (m : r ≡ Value seq a) where
+  module _ {seq a : ℕ} (e : ok seq a ≡ var s at) where
     pub no-channel : length s ≤ a → fault 1 ≡ small ids s at
     unfolding small byte
-    no-channel h = simp (← e, m, le-ltb _ _ h)
+    no-channel h = simp (← e, le-ltb _ _ h)
 
-    module _ (h : a < length s) {r' : Got} (e' : num_of r' ≡ pair s (a + 1)) where
-      pub no-count : r' ≡ Short → fault 1 ≡ small ids s at
+    module _ (h : a < length s) where
+      pub no-count : {x : ℕ} → fault x ≡ pair s (a + 1) → fault x ≡ small ids s at
       unfolding small byte
-      no-count m' = simp (← e, m, lt-ltb _ _ h, ← e', m')
+      no-count e' = simp (← e, lt-ltb _ _ h, ← e')
 
-      module _ {k b : ℕ} (m' : r' ≡ Value k b) where
+      module _ {k b : ℕ} (e' : ok k b ≡ pair s (a + 1)) where
         rest : small ids s at ≡ then (messages ids k s b) (λ ms end. ok (record { sequence = seq; channel = get_or s a 0; messages = ms }) end)
         unfolding small byte
-        rest = simp (← e, m, lt-ltb _ _ h, ← e', m')
+        rest = simp (← e, lt-ltb _ _ h, ← e')
 
-        module _ {w : Walk} (e'' : w ≡ walk_of (messages ids k s b)) where
-          pub no-message : w ≡ Lost → fault 1 ≡ small ids s at
-          no-message m'' = lost (messages ids k s b) _ ((messages-cuts ids k).cuts s b) (sym m'' ∙ e'') ∙ sym rest
+        pub no-message : {x : ℕ} → refused x ≡ walk_of (messages ids k s b) → fault x ≡ small ids s at
+        no-message e'' = lost (messages ids k s b) _ e'' ∙ sym rest
 
-          module _ {end : ℕ} (m'' : w ≡ Until end) where
-            all : (ms : List Message) × (messages ids k s b ≡ ok ms end)
-            all = until (messages ids k s b) (sym m'' ∙ e'')
+        module _ {end : ℕ} (e'' : done end ≡ walk_of (messages ids k s b)) where
+          all : (ms : List Message) × (messages ids k s b ≡ ok ms end)
+          all = until (messages ids k s b) e''
 
-            packet : Small
-            packet = record { sequence = seq; channel = get_or s a 0; messages = all.0 }
+          packet : Small
+          packet = record { sequence = seq; channel = get_or s a 0; messages = all.0 }
 
-            is-packet : small ids s at ≡ ok packet end
-            unfolding packet
-            is-packet = rest ∙ ap (λ (r : Res (List Message)). then r (λ ms next. ok (record { sequence = seq; channel = get_or s a 0; messages = ms }) next)) all.1
+          is-packet : small ids s at ≡ ok packet end
+          unfolding packet
+          is-packet = rest ∙ ap (λ (r : Res (List Message)). then r (λ ms next. ok (record { sequence = seq; channel = get_or s a 0; messages = ms }) next)) all.1
 
-            count : length all.0 ≡ k
-            count = subst (Counts k) all.1 (messages-count ids k s b)
+          count : length all.0 ≡ k
+          count = subst (Counts k) all.1 (messages-count ids k s b)
 
-            pub walked-good : Good (messages ids k s b)
-            walked-good = subst Good (sym all.1) tt
+          pub walked-good : Good (messages ids k s b)
+          walked-good = subst Good (sym all.1) tt
 
-            full : (n : ℕ) → n / RECORD < k → judged (small ids s at) n ≡ fault 11
-            unfolding judged packet
-            full n h =
-                let c = count in
-                let f : n < RECORD * length all.0 = omega arith in
-                simp (is-packet, lt-leb _ _ f)
+          full : (n : ℕ) → n / RECORD < k → judged (small ids s at) n ≡ fault 11
+          unfolding judged packet
+          full n h =
+              let c = count in
+              let f : n < RECORD * length all.0 = omega arith in
+              simp (is-packet, lt-leb _ _ f)
 
-            room : (n : ℕ) → k ≤ n / RECORD → judged (small ids s at) n ≡ ok packet end
-            unfolding judged packet
-            room n h =
-                let c = count in
-                let f : RECORD * length all.0 ≤ n = omega arith in
-                simp (is-packet, le-leb _ _ f)
+          room : (n : ℕ) → k ≤ n / RECORD → judged (small ids s at) n ≡ ok packet end
+          unfolding judged packet
+          room n h =
+              let c = count in
+              let f : RECORD * length all.0 ≤ n = omega arith in
+              simp (is-packet, le-leb _ _ f)
 
-            pub full-told : (n : ℕ) → n / RECORD < k → fault 11 ≡ told (judged (small ids s at) n)
-            full-told n h = simp (full n h)
+          pub full-told : (n : ℕ) → n / RECORD < k → fault 11 ≡ told (judged (small ids s at) n)
+          full-told n h = simp (full n h)
 
-            pub full-tabled : (t : List ℕ) → length t / RECORD < k → t ≡ tabled (judged (small ids s at) (length t)) t
-            unfolding tabled
-            full-tabled t h = simp (full (length t) h)
+          pub full-tabled : (t : List ℕ) → length t / RECORD < k → t ≡ tabled (judged (small ids s at) (length t)) t
+          unfolding tabled
+          full-tabled t h = simp (full (length t) h)
 
-            pub filled-told : (n : ℕ) → k ≤ n / RECORD → ok (record { sequence = seq; channel = get_or s a 0; count = k }) end ≡ told (judged (small ids s at) n)
-            unfolding packet
-            filled-told n h = let c = count in simp (room n h, c)
+          pub filled-told : (n : ℕ) → k ≤ n / RECORD → ok (record { sequence = seq; channel = get_or s a 0; count = k }) end ≡ told (judged (small ids s at) n)
+          unfolding packet
+          filled-told n h = let c = count in simp (room n h, c)
 
-            pub filled-tabled : (t t' : List ℕ) → k ≤ length t / RECORD → t' ≡ filled (messages ids k s b) 0 t → t' ≡ tabled (judged (small ids s at) (length t)) t
-            unfolding tabled packet
-            filled-tabled t t' h u = simp (room (length t) h) (simp all.1 at u)
+          pub filled-tabled : (t t' : List ℕ) → k ≤ length t / RECORD → t' ≡ filled (messages ids k s b) 0 t → t' ≡ tabled (judged (small ids s at) (length t)) t
+          unfolding tabled packet
+          filled-tabled t t' h u = simp (room (length t) h) (simp all.1 at u)
 
 -- a fault is the answer, and the table is as it was
-pub refused : (ids : Bool) (s : List ℕ) (at : ℕ) (t : List ℕ) {x : ℕ} → fault x ≡ small ids s at
+pub on_fault : (ids : Bool) (s : List ℕ) (at : ℕ) (t : List ℕ) {x : ℕ} → fault x ≡ small ids s at
     → (fault x ≡ told (judged (small ids s at) (length t))) × (t ≡ tabled (judged (small ids s at) (length t)) t)
 unfolding judged tabled
-refused ids s at t e = simp (← e) (refl, refl)
+on_fault ids s at t e = simp (← e) (refl, refl)

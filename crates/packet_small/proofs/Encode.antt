@@ -1,21 +1,19 @@
 -- `put_small_of` at each of its cases, in the terms in which code meets them. Assumes nothing.
 use Prim.Native.Nat.{ℕ, zero, suc, ◌+◌, ◌*◌, ◌/◌, ◌≤◌, ◌<◌}
 use mathlib.Core.Path.{◌≡◌, refl, sym, ap, ◌∙◌}
-use mathlib.Core.Bool.{Bool, true, false, not}
+use mathlib.Core.Bool.{Bool, true, false}
 use mathlib.Core.List.{List, [], ◌∷◌, map}
 use native.Mathlib.Omega.{arith}
-use borrow.Author.Tests.{lt-ltb, le-ltb, le-leb, lt-leb, leb-true, leb-false, not-true, not-false}
+use borrow.Author.Tests.{lt-ltb, le-ltb, le-leb, lt-leb, leb-true}
 use lib.ListN.{length, take, drop, length-append, length-take, length-drop}
-use lib.Dec.{ltb, leb}
+use lib.Dec.{ltb}
 use Rattle.words.specs.Sizes.{LIMIT, MAX_MESSAGES}
-use Rattle.words.specs.Lists.{splice, all, total, reached}
+use Rattle.words.specs.Lists.{splice, all, total}
 use Rattle.octets.specs.Varint.{var_len}
 use Rattle.octets.specs.Writer.{done, refused}
-use Rattle.packet_small.specs.declared.Judgement.{Judgement}
 use Rattle.packet_small.specs.Small.{Message, RECORD}
 use Rattle.packet_small.specs.Write.{listed, said_of, stored, sayable, messages_bytes, head_bytes, small_bytes_of, small_of, small_refusal, put_small_of}
-use Rattle.packet_small.specs.Steps.{head_len, size, fresh, spent, judgement}
-use Rattle.packet_small.proofs.Judge.{whole-stored, whole-sayable, whole-fits}
+use Rattle.packet_small.specs.Steps.{head_len, size}
 use Rattle.packet_small.proofs.Wrote.{first_of, length-message, length-head, splice-next}
 
 -- ---- lengths
@@ -69,67 +67,39 @@ module _ (ids : Bool) (seq channel : ℕ) (t : List ℕ) (n : ℕ) (src : List �
     unfolding put_small_of small_refusal
     bad-table h = let g : length t < RECORD * n = omega arith in simp (lt-ltb _ _ g)
 
-    module _ (h : n ≤ length t / RECORD) {first j : Judgement} (eh : first ≡ spent (at + head_len seq) (fresh m))
-        (e : j ≡ reached (judgement ids (length src)) first (listed t 0 n)) where
+    module _ (h : n ≤ length t / RECORD) where
       in_table : ltb (length t) (RECORD * n) ≡ false
       in_table = let g : RECORD * n ≤ length t = omega arith in le-ltb _ _ g
 
-      whole : j ≡ reached (judgement ids (length src)) (spent (at + head_len seq) (fresh m)) (listed t 0 n)
-      whole = e ∙ ap (λ (f : Judgement). reached (judgement ids (length src)) f (listed t 0 n)) eh
-
-      is-stored : j.stored ≡ all (stored (length src)) (listed t 0 n)
-      is-stored = whole-stored ids (length src) (at + head_len seq) m (listed t 0 n) whole
-
-      pub bad-store : not j.stored ≡ true → refused 10 ≡ put_small_of ids seq channel t n src at m
+      pub bad-store : false ≡ all (stored (length src)) (listed t 0 n) → refused 10 ≡ put_small_of ids seq channel t n src at m
       unfolding put_small_of small_refusal
-      bad-store u = simp (in_table, ← is-stored, u)
+      bad-store u = simp (in_table, ← u)
 
-      module _ (u : not j.stored ≡ false) where
-        all-stored : all (stored (length src)) (listed t 0 n) ≡ true
-        all-stored = sym is-stored ∙ not-false j.stored u
-
+      module _ (u : true ≡ all (stored (length src)) (listed t 0 n)) where
         pub bad-sequence : LIMIT ≤ seq → refused 13 ≡ put_small_of ids seq channel t n src at m
         unfolding put_small_of small_refusal
-        bad-sequence k = simp (in_table, all-stored, le-leb _ _ k)
+        bad-sequence k = simp (in_table, ← u, le-leb _ _ k)
 
         module _ (k : seq < LIMIT) where
-          is-sayable : j.sayable ≡ all (sayable ids) (listed t 0 n)
-          is-sayable = whole-sayable ids (length src) (at + head_len seq) m (listed t 0 n) whole
-
-          pub bad-number : not j.sayable ≡ true → refused 13 ≡ put_small_of ids seq channel t n src at m
+          pub bad-number : false ≡ all (sayable ids) (listed t 0 n) → refused 13 ≡ put_small_of ids seq channel t n src at m
           unfolding put_small_of small_refusal
-          bad-number v = simp (in_table, all-stored, lt-leb _ _ k, ← is-sayable, v)
+          bad-number v = simp (in_table, ← u, lt-leb _ _ k, ← v)
 
-          module _ (v : not j.sayable ≡ false) where
-            all-sayable : all (sayable ids) (listed t 0 n) ≡ true
-            all-sayable = sym is-sayable ∙ not-false j.sayable v
-
+          module _ (v : true ≡ all (sayable ids) (listed t 0 n)) where
             pub too_long : MAX_MESSAGES < n → refused 12 ≡ put_small_of ids seq channel t n src at m
             unfolding put_small_of small_refusal
-            too_long w = simp (in_table, all-stored, lt-leb _ _ k, all-sayable, lt-ltb _ _ w)
+            too_long w = simp (in_table, ← u, lt-leb _ _ k, ← v, lt-ltb _ _ w)
 
             module _ (w : n ≤ MAX_MESSAGES) where
-              fit : j.fits ≡ leb (at + head_len seq + total (size ids) (listed t 0 n)) m
-              fit = whole-fits ids (length src) (at + head_len seq) m (listed t 0 n) whole
-
-              pub no_room : not j.fits ≡ true → refused 1 ≡ put_small_of ids seq channel t n src at m
+              pub no_room : m < at + head_len seq + total (size ids) (listed t 0 n) → refused 1 ≡ put_small_of ids seq channel t n src at m
               unfolding put_small_of small_refusal
               no_room x =
-                  let l = length-packet all-stored in
-                  let o = leb-false (at + head_len seq + total (size ids) (listed t 0 n)) m (sym fit ∙ not-true j.fits x) in
+                  let l = length-packet (sym u) in
                   let g : m < at + length (small_of ids seq channel t n src) = omega arith in
-                  simp (in_table, all-stored, lt-leb _ _ k, all-sayable, le-ltb _ _ w, lt-ltb _ _ g)
+                  simp (in_table, ← u, lt-leb _ _ k, ← v, le-ltb _ _ w, lt-ltb _ _ g)
 
-              pub accepted : not j.fits ≡ false → Accepted ids seq t n src at m
-              accepted x =
-                  record {
-                    table = omega arith;
-                    all-stored = all-stored;
-                    sequence = k;
-                    all-sayable = all-sayable;
-                    count = w;
-                    room = leb-true (at + head_len seq + total (size ids) (listed t 0 n)) m (sym fit ∙ not-false j.fits x);
-                  }
+              pub accepted : at + head_len seq + total (size ids) (listed t 0 n) ≤ m → Accepted ids seq t n src at m
+              accepted x = record { table = omega arith; all-stored = sym u; sequence = k; all-sayable = sym v; count = w; room = x }
 
     pub in-room : Accepted ids seq t n src at m → {a r : ℕ} → a ≡ at + head_len seq → r ≡ a + total (size ids) (listed t 0 n) → done r ≡ put_small_of ids seq channel t n src at m
     unfolding put_small_of small_refusal

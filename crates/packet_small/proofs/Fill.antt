@@ -7,10 +7,10 @@ use native.Mathlib.Omega.{arith}
 use native.Mathlib.Numerals.{add-one, add-two}
 use lib.ListN.{set}
 use Rattle.words.specs.Lists.{splice}
-use Rattle.words.specs.declared.MessageId.{MessageId}
+use Rattle.std.specs.Prelude.{Result, Ok, Err, IsOk}
+use Rattle.words.specs.declared.Refusal.{Refusal}
 use Rattle.octets.specs.Reader.{Res, ok, fault, then, Good}
-use Rattle.packet_small.specs.declared.Item.{Item}
-use Rattle.packet_small.specs.declared.Item.TheVariants.{Found, Cut}
+use Rattle.packet_small.specs.declared.Message as item
 use Rattle.packet_small.specs.Small.{Message, message, messages, item_of, words, RECORD}
 use Rattle.packet_small.specs.Steps.{filled}
 
@@ -29,26 +29,25 @@ pub fill_none : (ids : Bool) (s : List ℕ) (at n i j : ℕ) (t : List ℕ) {X :
 unfolding messages splice words
 fill_none ids s at n i j t h inv = let z : n - i ≡ 0 = omega arith in simp z at inv
 
-module _ (ids : Bool) (s : List ℕ) (at : ℕ) {r : Item} (e : item_of r ≡ message ids s at) (n i : ℕ) (h : i < n) (g : Good (messages ids (n - i) s at)) where
-  pub fill-cut : r ≡ Cut → ⊥
+module _ (ids : Bool) (s : List ℕ) (at n i : ℕ) (h : i < n) (g : Good (messages ids (n - i) s at)) where
+  -- the next message is there
+  pub fill-there : (r : Result item.Message Refusal) → item_of r ≡ message ids s at → IsOk r
   unfolding messages
-  fill-cut m = let q : n - i ≡ suc (n - (i + 1)) = omega arith in simp (q, ← e, m) at g
+  fill-there (Ok m) e = refl
+  fill-there (Err x) e = let q : n - i ≡ suc (n - (i + 1)) = omega arith in absurd (simp (q, ← e) at g)
 
-  module _ {id : MessageId} {place len : ℕ} (m : r ≡ Found id place len) where
-    one : Message
-    one = record { id = id.0; place = place; len = len }
-
-    pub fill-good : Good (messages ids (n - (i + 1)) s (place + len))
-    unfolding messages one
+  module _ {m : Message} {next : ℕ} (e : ok m next ≡ message ids s at) where
+    pub fill-good : Good (messages ids (n - (i + 1)) s next)
+    unfolding messages
     fill-good =
         let q : n - i ≡ suc (n - (i + 1)) = omega arith in
-        good-then one (messages ids (n - (i + 1)) s (place + len)) (simp (q, ← e, m) at g)
+        good-then m (messages ids (n - (i + 1)) s next) (simp (q, ← e) at g)
 
     pub fill_more : (t : List ℕ) {X : List ℕ} → filled (messages ids (n - i) s at) (RECORD * i) t ≡ X
-        → filled (messages ids (n - (i + 1)) s (place + len)) (RECORD * (i + 1)) (set (set (set t (RECORD * i) id.0) (RECORD * i + 1) place) (RECORD * i + 2) len) ≡ X
-    unfolding messages one
+        → filled (messages ids (n - (i + 1)) s next) (RECORD * (i + 1)) (set (set (set t (RECORD * i) m.id) (RECORD * i + 1) m.place) (RECORD * i + 2) m.len) ≡ X
+    unfolding messages
     fill_more t inv =
         let q : n - i ≡ suc (n - (i + 1)) = omega arith in
         let j : RECORD * (i + 1) ≡ suc (suc (suc (RECORD * i))) = omega arith in
-        let f = filled-then one (messages ids (n - (i + 1)) s (place + len)) (RECORD * i) t (simp (q, ← e, m) at g) in
-        simp (j, add-one (RECORD * i), add-two (RECORD * i)) (f ∙ (simp (q, ← e, m) at inv))
+        let f = filled-then m (messages ids (n - (i + 1)) s next) (RECORD * i) t (simp (q, ← e) at g) in
+        simp (j, add-one (RECORD * i), add-two (RECORD * i)) (f ∙ (simp (q, ← e) at inv))

@@ -1,103 +1,47 @@
 -- What judging one message shows, and what judging a whole table comes to: every part is within the store, every number can be said, and
 -- all fit the room. Assumes nothing.
 use Prim.Native.Nat.{ℕ, suc, ◌+◌, ◌-◌, ◌≤◌, ◌<◌}
-use mathlib.Core.Path.{◌≡◌, refl, sym, ap, ap₂, ◌∙◌}
-use mathlib.Core.Bool.{Bool, true, false, not}
+use mathlib.Core.Path.{◌≡◌, refl, sym, ap, ◌∙◌}
+use mathlib.Core.Bool.{Bool, true, false}
 use mathlib.Core.List.{List, [], ◌∷◌}
 use native.Mathlib.Omega.{arith}
-use borrow.Author.Tests.{lt-ltb, le-ltb, le-leb, lt-leb, leb-true, leb-false, not-true, not-false}
+use borrow.Author.Tests.{lt-ltb, le-ltb, le-leb, lt-leb}
 use lib.Dec.{ltb, leb}
 use Rattle.words.specs.Sizes.{LIMIT}
 use Rattle.words.specs.Choice.{pick}
-use Rattle.words.specs.Lists.{all, total, reached}
+use Rattle.words.specs.Lists.{all, total}
 use Rattle.words.proofs.Tests.{leb-same}
-use Rattle.octets.specs.Varint.{var_len}
-use Rattle.packet_small.specs.declared.Judgement.{Judgement}
 use Rattle.packet_small.specs.Small.{Message}
 use Rattle.packet_small.specs.Write.{record_at, listed, id_said, stored, sayable}
-use Rattle.packet_small.specs.Steps.{head_len, id_len_of, size, record_of, fresh, spent, judgement}
-
--- ---- tests
-
-pick-false : (t : Bool) → pick t false false ≡ false
-pick-false true = refl
-pick-false false = refl
-
-pick-itself : (t : Bool) → pick t true false ≡ t
-pick-itself true = refl
-pick-itself false = refl
-
-pick-both : (a b c : Bool) → pick (pick a b false) c false ≡ pick a (pick b c false) false
-pick-both true b c = refl
-pick-both false b c = refl
-
--- what is taken from both sides
-pick_less : (x r s : ℕ) (f : Bool) → pick (leb r (s - x)) (pick (leb x s) f false) false ≡ pick (leb (x + r) s) f false
-pick_less x r s f = go (leb x s) refl
-  where
-    go : (t : Bool) → leb x s ≡ t → pick (leb r (s - x)) (pick (leb x s) f false) false ≡ pick (leb (x + r) s) f false
-    go true p =
-        let h : x ≤ s = leb-true x s p in
-        let q : leb r (s - x) ≡ leb (x + r) s = leb-same r (s - x) (x + r) s (λ l. omega arith) (λ l. omega arith) in
-        simp (p, q)
-    go false p =
-        let h : s < x = leb-false x s p in
-        let g : s < x + r = omega arith in
-        simp (p, lt-leb _ _ g, pick-false (leb r (s - x)))
+use Rattle.packet_small.specs.Steps.{message_len, size, record_of}
 
 -- ---- one message
 
-module _ (before : Bool) (place len m : ℕ) where
-  pub stored-not : not before ≡ true → false ≡ pick before (leb (place + len) m) false
-  stored-not n = simp (not-true before n)
+module _ (id place len m : ℕ) where
+  pub stored-not : m < place + len → stored m (record_of id place len) ≡ false
+  stored-not h = lt-leb _ _ h
 
-  pub stored-place : not before ≡ false → m < place → false ≡ pick before (leb (place + len) m) false
-  stored-place n h = let g : m < place + len = omega arith in simp (not-false before n, lt-leb _ _ g)
+  pub stored-is : place + len ≤ m → stored m (record_of id place len) ≡ true
+  stored-is h = le-leb _ _ h
 
-  pub stored-len : not before ≡ false → place ≤ m → leb len (m - place) ≡ pick before (leb (place + len) m) false
-  stored-len n h = simp (not-false before n) (leb-same len (m - place) (place + len) m (λ l. omega arith) (λ l. omega arith))
+module _ (ids : Bool) (id place len : ℕ) where
+  pub sayable-len : LIMIT ≤ len → sayable ids (record_of id place len) ≡ false
+  sayable-len h = rw (le-ltb _ _ h) (pick-false (ltb (id_said ids id) LIMIT))
+    where
+      pick-false : (t : Bool) → pick t false false ≡ false
+      pick-false true = refl
+      pick-false false = refl
 
-module _ (before ids : Bool) (id len : ℕ) where
-  pub sayable-not : not before ≡ true → false ≡ pick before (sayable ids (record_of id 0 len)) false
-  sayable-not n = simp (not-true before n)
+  pub sayable-id : ids ≡ true → LIMIT ≤ id → sayable ids (record_of id place len) ≡ false
+  sayable-id i h = simp (i, le-ltb _ _ h)
 
-  module _ (n : not before ≡ false) where
-    pub sayable-len : LIMIT ≤ len → false ≡ pick before (sayable ids (record_of id 0 len)) false
-    sayable-len h = simp (not-false before n, le-ltb _ _ h) (sym (pick-false (ltb (id_said ids id) LIMIT)))
+  pub sayable-both : ids ≡ true → id < LIMIT → len < LIMIT → sayable ids (record_of id place len) ≡ true
+  sayable-both i h g = simp (i, lt-ltb _ _ h, lt-ltb _ _ g)
 
-    pub sayable-id : len < LIMIT → ids ≡ true → ltb id LIMIT ≡ pick before (sayable ids (record_of id 0 len)) false
-    sayable-id h i = simp (not-false before n, lt-ltb _ _ h, i) (sym (pick-itself (ltb id LIMIT)))
+  pub sayable-none : ids ≡ false → len < LIMIT → sayable ids (record_of id place len) ≡ true
+  sayable-none i g = simp (i, lt-ltb _ _ g)
 
-    pub sayable-none : len < LIMIT → ids ≡ false → true ≡ pick before (sayable ids (record_of id 0 len)) false
-    sayable-none h i = simp (not-false before n, lt-ltb _ _ h, i)
-
--- ---- the room
-
-module _ (n : ℕ) (j : Judgement) where
-  pub spent-over : j.spare < n → record { stored = j.stored; sayable = j.sayable; fits = false; spare = 0 } ≡ spent n j
-  spent-over h = let z : j.spare - n ≡ 0 = omega arith in simp (lt-leb _ _ h, z)
-
-  pub spent-within : n ≤ j.spare → record { stored = j.stored; sayable = j.sayable; fits = j.fits; spare = j.spare - n } ≡ spent n j
-  spent-within h = simp (le-leb _ _ h)
-
-pub spent-twice : (a b : ℕ) (j : Judgement) {j1 j2 : Judgement} → j2 ≡ spent b j1 → j1 ≡ spent a j → j2 ≡ spent (a + b) j
-spent-twice a b j e2 e1 =
-    let z : j.spare - a - b ≡ j.spare - (a + b) = omega arith in
-    e2 ∙ ap (spent b) e1 ∙ ap₂ (λ (f : Bool) (s : ℕ). record { stored = j.stored; sayable = j.sayable; fits = f; spare = s }) (pick_less a b j.spare j.fits) z
-
-pub judged-first : (at seq m : ℕ) {l : ℕ} {j1 j2 : Judgement} → j2 ≡ spent (l + 4) j1 → j1 ≡ spent at (fresh m) → l ≡ var_len seq → j2 ≡ spent (at + head_len seq) (fresh m)
-judged-first at seq m {l} e2 e1 e = rw (← e) (spent-twice at (l + 4) (fresh m) e2 e1)
-
-pub judged-one : (ids : Bool) (m : ℕ) (j : Judgement) (id place len : ℕ) {st sa : Bool} {a b : ℕ} {j1 j2 : Judgement}
-    → j2 ≡ spent len j1 → j1 ≡ spent (a + b) (record { stored = st; sayable = sa; fits = j.fits; spare = j.spare })
-    → st ≡ pick j.stored (leb (place + len) m) false → sa ≡ pick j.sayable (sayable ids (record_of id 0 len)) false → a ≡ id_len_of ids id → b ≡ var_len len
-    → j2 ≡ judgement ids m j (record_of id place len)
-unfolding judgement size
-judged-one ids m j id place len {st} {sa} {a} {b} w2 w1 es ea e1 e2 =
-    let n : id_len_of ids id + var_len len + len ≡ id_len_of ids id + (var_len len + len) = omega arith in
-    spent-twice (a + b) len _ w2 w1 ∙ simp (es, ea, e1, e2, n)
-
--- ---- a table
+-- ---- a table, from its i-th message on
 
 module _ (t : List ℕ) (n i : ℕ) where
   pub listed-none : n ≤ i → listed t i (n - i) ≡ []
@@ -108,39 +52,34 @@ module _ (t : List ℕ) (n i : ℕ) where
   unfolding listed
   listed_more h = let q : n - i ≡ suc (n - (i + 1)) = omega arith in simp q
 
-  -- X is the judgement of the whole
-  module _ (ids : Bool) (m : ℕ) (j : Judgement) {X : Judgement} (inv : reached (judgement ids m) j (listed t i (n - i)) ≡ X) where
-    pub judged-none : n ≤ i → j ≡ X
-    unfolding reached
-    judged-none h = simp (listed-none h) at inv
+  -- X tells of the whole table whether each message passes
+  module _ (p : Message → Bool) {X : Bool} (inv : all p (listed t i (n - i)) ≡ X) where
+    pub all_passed : n ≤ i → true ≡ X
+    unfolding all
+    all_passed h = simp (listed-none h) at inv
 
-    pub judged-more : i < n → {r : Judgement} → r ≡ judgement ids m j (record_at t i) → reached (judgement ids m) r (listed t (i + 1) (n - (i + 1))) ≡ X
-    unfolding reached
-    judged-more h e = rw e (simp (listed_more h) at inv)
+    module _ {e : Message} (r : e ≡ record_at t i) (h : i < n) where
+      pub one-fails : p e ≡ false → false ≡ X
+      unfolding all
+      one-fails f = let g : p (record_at t i) ≡ false = ap p (sym r) ∙ f in simp (listed_more h, g) at inv
 
-module _ (ids : Bool) (m : ℕ) where
-  all-stored : (j : Judgement) (es : List Message) → (reached (judgement ids m) j es).stored ≡ pick j.stored (all (stored m) es) false
-  unfolding reached all judgement
-  all-stored j [] = sym (pick-itself j.stored)
-  all-stored j (e ∷ es) = all-stored (judgement ids m j e) es ∙ pick-both j.stored (stored m e) (all (stored m) es)
+      pub one-passes : p e ≡ true → all p (listed t (i + 1) (n - (i + 1))) ≡ X
+      unfolding all
+      one-passes f = let g : p (record_at t i) ≡ true = ap p (sym r) ∙ f in simp (listed_more h, g) at inv
 
-  all-sayable : (j : Judgement) (es : List Message) → (reached (judgement ids m) j es).sayable ≡ pick j.sayable (all (sayable ids) es) false
-  unfolding reached all judgement
-  all-sayable j [] = sym (pick-itself j.sayable)
-  all-sayable j (e ∷ es) = all-sayable (judgement ids m j e) es ∙ pick-both j.sayable (sayable ids e) (all (sayable ids) es)
+  -- and whether all fit
+  module _ (ids : Bool) (spare : ℕ) {X : Bool} (inv : leb (total (size ids) (listed t i (n - i))) spare ≡ X) where
+    pub all_fitted : n ≤ i → true ≡ X
+    unfolding total
+    all_fitted h = sym (le-leb 0 spare (omega arith)) ∙ simp (listed-none h) at inv
 
-  all_fit : (j : Judgement) (es : List Message) → (reached (judgement ids m) j es).fits ≡ pick (leb (total (size ids) es) j.spare) j.fits false
-  unfolding reached total judgement
-  all_fit j [] = simp (le-leb 0 j.spare (omega arith))
-  all_fit j (e ∷ es) = all_fit (judgement ids m j e) es ∙ pick_less (size ids e) (total (size ids) es) j.spare j.fits
+    module _ {id place len : ℕ} (r : record_of id place len ≡ record_at t i) (h : i < n) where
+      sized : leb (message_len ids id len + total (size ids) (listed t (i + 1) (n - (i + 1)))) spare ≡ X
+      unfolding total size
+      sized = let s : size ids (record_of id place len) ≡ size ids (record_at t i) = ap (size ids) r in rw s (simp (listed_more h) at inv)
 
-  -- what a whole judgement says
-  module _ (used room : ℕ) (es : List Message) {r : Judgement} (e : r ≡ reached (judgement ids m) (spent used (fresh room)) es) where
-    pub whole-stored : r.stored ≡ all (stored m) es
-    whole-stored = rw e (all-stored (spent used (fresh room)) es)
+      pub one-over : spare < message_len ids id len → false ≡ X
+      one-over g = let o : spare < message_len ids id len + total (size ids) (listed t (i + 1) (n - (i + 1))) = omega arith in sym (lt-leb _ _ o) ∙ sized
 
-    pub whole-sayable : r.sayable ≡ all (sayable ids) es
-    whole-sayable = rw e (all-sayable (spent used (fresh room)) es)
-
-    pub whole-fits : r.fits ≡ leb (used + total (size ids) es) room
-    whole-fits = rw e (all_fit (spent used (fresh room)) es ∙ pick_less used (total (size ids) es) room true ∙ pick-itself (leb (used + total (size ids) es) room))
+      pub one-within : message_len ids id len ≤ spare → {left : ℕ} → left ≡ spare - message_len ids id len → leb (total (size ids) (listed t (i + 1) (n - (i + 1)))) left ≡ X
+      one-within g {left} e = leb-same _ left _ spare (λ l. omega arith) (λ l. omega arith) ∙ sized

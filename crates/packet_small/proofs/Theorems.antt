@@ -17,8 +17,9 @@ use Rattle.octets.specs.Writer.{done, left}
 use Rattle.octets.proofs.Exact.{Here, here-both, here-fits, here-taken, exact-byte, ByteSpelt, one_byte}
 use Rattle.octets.proofs.Read.{byte-there}
 use Rattle.octets.proofs.Forms.{var-spelt}
-use Rattle.packet_small.specs.declared.SmallRead.{SmallRead}
-use Rattle.packet_small.specs.declared.SmallRead.TheVariants as read
+use Rattle.std.specs.Prelude.{Result, Ok, Err}
+use Rattle.words.specs.declared.Refusal.{Refusal}
+use Rattle.packet_small.specs.declared.Small.{Small}
 use Rattle.packet_small.specs.Small.{Told, read_of}
 use Rattle.packet_small.specs.Write.{Said, type_byte_of, head_bytes, small_bytes_of, listed, said_of, small_of, put_small_of}
 use Rattle.packet_small.specs.Layout.{SmallSaid, SmallSpelt, packet}
@@ -85,14 +86,14 @@ put-read ids seq channel t n src at out c e =
 
 -- ---- an answer of the code says one thing only
 
-read_back_of : Res Told → SmallRead
-read_back_of (ok p next) = read.Whole (record { sequence = record { 0 = p.sequence }; channel_id = p.channel; count = p.count }) next
-read_back_of (fault e) = read.Refused (refusal_of e)
+read_back_of : Res Told → Result (Small × ℕ) Refusal
+read_back_of (ok p next) = Ok (record { sequence = record { 0 = p.sequence }; channel_id = p.channel; count = p.count }, next)
+read_back_of (fault e) = Err (refusal_of e)
 
-read-undone : (r : SmallRead) → read_back_of (read_of r) ≡ r
+read-undone : (r : Result (Small × ℕ) Refusal) → read_back_of (read_of r) ≡ r
 unfolding read_back_of
-read-undone (read.Whole p next) = refl
-read-undone (read.Refused e) = ap read.Refused (refusal-undone e)
+read-undone (Ok (p, next)) = refl
+read-undone (Err e) = ap Err (refusal-undone e)
 
-pub one-read : (a b : SmallRead) → read_of a ≡ read_of b → a ≡ b
+pub one-read : (a b : Result (Small × ℕ) Refusal) → read_of a ≡ read_of b → a ≡ b
 one-read = told-apart read_of read_back_of read-undone

@@ -1,12 +1,12 @@
 -- What the writing functions make of the buffer. Assumes nothing.
-use Prim.Native.Nat.{ℕ, suc, ◌+◌, ◌*◌, ◌-◌, ◌≤◌, ◌<◌}
+use Prim.Native.Nat.{ℕ, suc, ◌+◌, ◌-◌, ◌≤◌, ◌<◌}
 use mathlib.Core.Path.{◌≡◌, refl, sym, ap, ◌∙◌}
 use mathlib.Core.Bool.{Bool, true, false}
 use mathlib.Core.List.{List, ◌∷◌, ◌++◌, map}
 use native.Mathlib.Omega.{arith}
 use native.Mathlib.Numerals.{add-one}
 use borrow.Author.Tests.{ltb-true, leb-true}
-use lib.ListN.{length, get_or, set, take, drop, length-append, length-take, length-drop}
+use lib.ListN.{length, set, take, drop, length-append, length-take, length-drop}
 use lib.Dec.{ltb}
 use Rattle.words.specs.Sizes.{LIMIT}
 use Rattle.words.specs.Lists.{splice, all, total}
@@ -14,7 +14,7 @@ use Rattle.words.proofs.Splice.{splice-splice}
 use Rattle.octets.specs.Varint.{var_len, var_bytes, pair_bytes, run_bytes}
 use Rattle.octets.proofs.Back.{length-var}
 use Rattle.octets.proofs.Runs.{length_run}
-use Rattle.packet_small.specs.Small.{Message, RECORD}
+use Rattle.packet_small.specs.Small.{Message}
 use Rattle.packet_small.specs.Write.{type_byte_of, id_bytes, id_said, message_bytes, messages_bytes, head_bytes, record_at, listed, said_of, stored, sayable}
 use Rattle.packet_small.specs.Steps.{head_len, id_len_of, message_len, size, said}
 use Rattle.packet_small.proofs.Judge.{listed-none, listed_more}
@@ -79,48 +79,47 @@ sayable-parts ids e h = go (ltb (id_said ids e.id) LIMIT) refl
 abbrev pub part : List ℕ → ℕ → ℕ → List ℕ
 part src p l = take (p + l - p) (drop p src)
 
--- what is known of the message of a turn, and of those after it
-pub record Turn (ids : Bool) (src t : List ℕ) (n i : ℕ) : Type 0 where
-  pub place : get_or t (RECORD * i + 1) 0 + get_or t (RECORD * i + 2) 0 ≤ length src
-  pub id : id_said ids (get_or t (RECORD * i) 0) < LIMIT
-  pub len : get_or t (RECORD * i + 2) 0 < LIMIT
-  pub bytes : length (part src (get_or t (RECORD * i + 1) 0) (get_or t (RECORD * i + 2) 0)) ≡ get_or t (RECORD * i + 2) 0
-  pub form : var_len (length (part src (get_or t (RECORD * i + 1) 0) (get_or t (RECORD * i + 2) 0))) ≡ var_len (get_or t (RECORD * i + 2) 0)
-  pub sizes : total (size ids) (listed t i (n - i)) ≡ message_len ids (get_or t (RECORD * i) 0) (get_or t (RECORD * i + 2) 0) + total (size ids) (listed t (i + 1) (n - (i + 1)))
+-- what is known of the message e of a turn, and of those after it
+pub record Turn (ids : Bool) (src t : List ℕ) (n i : ℕ) (e : Message) : Type 0 where
+  pub place : e.place + e.len ≤ length src
+  pub id : id_said ids e.id < LIMIT
+  pub len : e.len < LIMIT
+  pub bytes : length (part src e.place e.len) ≡ e.len
+  pub form : var_len (length (part src e.place e.len)) ≡ var_len e.len
+  pub sizes : total (size ids) (listed t i (n - i)) ≡ message_len ids e.id e.len + total (size ids) (listed t (i + 1) (n - (i + 1)))
   pub all-stored : all (stored (length src)) (listed t (i + 1) (n - (i + 1))) ≡ true
   pub all-sayable : all (sayable ids) (listed t (i + 1) (n - (i + 1))) ≡ true
 
-pub turn : (ids : Bool) (src t : List ℕ) (n i : ℕ) → i < n → all (stored (length src)) (listed t i (n - i)) ≡ true → all (sayable ids) (listed t i (n - i)) ≡ true
-    → Turn ids src t n i
+-- the message and those after it
+next : (t : List ℕ) (n i : ℕ) {e : Message} → e ≡ record_at t i → i < n → listed t i (n - i) ≡ e ∷ listed t (i + 1) (n - (i + 1))
+next t n i r h = listed_more t n i h ∙ ap (λ (x : Message). x ∷ listed t (i + 1) (n - (i + 1))) (sym r)
+
+pub turn : (ids : Bool) (src t : List ℕ) (n i : ℕ) (e : Message) → e ≡ record_at t i → i < n → all (stored (length src)) (listed t i (n - i)) ≡ true
+    → all (sayable ids) (listed t i (n - i)) ≡ true → Turn ids src t n i e
 unfolding total size
-turn ids src t n i h s y =
-    let p : ℕ = get_or t (RECORD * i + 1) 0 in
-    let l : ℕ = get_or t (RECORD * i + 2) 0 in
-    let more = listed_more t n i h in
-    let s' = first_of (stored (length src)) _ _ (simp more at s) in
-    let y' = first_of (sayable ids) _ _ (simp more at y) in
-    let f : p + l ≤ length src = leb-true (p + l) (length src) s'.0 in
-    let b : length (part src p l) ≡ l = simp (length-take, length-drop) (omega arith) in
-    let q = sayable-parts ids (record_at t i) y'.0 in
+turn ids src t n i e r h s y =
+    let more = next t n i r h in
+    let s' = first_of (stored (length src)) e _ (simp more at s) in
+    let y' = first_of (sayable ids) e _ (simp more at y) in
+    let f : e.place + e.len ≤ length src = leb-true (e.place + e.len) (length src) s'.0 in
+    let b : length (part src e.place e.len) ≡ e.len = simp (length-take, length-drop) (omega arith) in
+    let q = sayable-parts ids e y'.0 in
     record { place = f; id = q.0; len = q.1; bytes = b; form = ap var_len b; sizes = simp more; all-stored = s'.1; all-sayable = y'.1 }
 
-pub turn-wrote : (ids : Bool) (src t : List ℕ) (n i at : ℕ) (out : List ℕ) {at' : ℕ} {out' X : List ℕ} → i < n
-    → out' ≡ splice at (message_bytes ids (said ids (get_or t (RECORD * i) 0) (part src (get_or t (RECORD * i + 1) 0) (get_or t (RECORD * i + 2) 0)))) out
-    → at' ≡ at + message_len ids (get_or t (RECORD * i) 0) (length (part src (get_or t (RECORD * i + 1) 0) (get_or t (RECORD * i + 2) 0)))
+pub turn-wrote : (ids : Bool) (src t : List ℕ) (n i : ℕ) (e : Message) (at : ℕ) (out : List ℕ) {at' : ℕ} {out' X : List ℕ} → e ≡ record_at t i → i < n
+    → out' ≡ splice at (message_bytes ids (said ids e.id (part src e.place e.len))) out
+    → at' ≡ at + message_len ids e.id (length (part src e.place e.len))
     → splice at (messages_bytes ids (map (said_of ids src) (listed t i (n - i)))) out ≡ X
     → splice at' (messages_bytes ids (map (said_of ids src) (listed t (i + 1) (n - (i + 1))))) out' ≡ X
 unfolding messages_bytes
-turn-wrote ids src t n i at out {at'} {out'} {X} h e a inv =
-    let id : ℕ = get_or t (RECORD * i) 0 in
-    let p : ℕ = get_or t (RECORD * i + 1) 0 in
-    let l : ℕ = get_or t (RECORD * i + 2) 0 in
-    let z : p + l - p ≡ l = omega arith in
-    let bs : List ℕ = message_bytes ids (said ids id (part src p l)) in
+turn-wrote ids src t n i e at out {at'} {out'} {X} r h o a inv =
+    let z : e.place + e.len - e.place ≡ e.len = omega arith in
+    let bs : List ℕ = message_bytes ids (said ids e.id (part src e.place e.len)) in
     let rest : List ℕ = messages_bytes ids (map (said_of ids src) (listed t (i + 1) (n - (i + 1)))) in
-    let g : at' ≡ at + length bs = a ∙ ap (λ (k : ℕ). at + k) (sym (length-message ids id (part src p l))) in
-    let w : splice at' rest out' ≡ splice at (bs ++ rest) out = ap (splice at' rest) e ∙ splice-next at bs rest out g in
-    let v : splice at (message_bytes ids (said ids id (take l (drop p src))) ++ rest) out ≡ X = simp (listed_more t n i h) at inv in
-    w ∙ ap (λ (k : ℕ). splice at (message_bytes ids (said ids id (take k (drop p src))) ++ rest) out) z ∙ v
+    let g : at' ≡ at + length bs = a ∙ ap (λ (k : ℕ). at + k) (sym (length-message ids e.id (part src e.place e.len))) in
+    let w : splice at' rest out' ≡ splice at (bs ++ rest) out = ap (splice at' rest) o ∙ splice-next at bs rest out g in
+    let v : splice at (message_bytes ids (said ids e.id (take e.len (drop e.place src))) ++ rest) out ≡ X = simp (next t n i r h) at inv in
+    w ∙ ap (λ (k : ℕ). splice at (message_bytes ids (said ids e.id (take k (drop e.place src))) ++ rest) out) z ∙ v
 
 module _ (ids : Bool) (t : List ℕ) (n i : ℕ) (h : n ≤ i) where
   pub wrote_none : (src : List ℕ) (at : ℕ) (out : List ℕ) {X : List ℕ} → splice at (messages_bytes ids (map (said_of ids src) (listed t i (n - i)))) out ≡ X → out ≡ X

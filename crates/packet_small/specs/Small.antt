@@ -2,16 +2,15 @@
 --   0 SmallReliable    v seq, channel byte, two-byte count; per message v id, v length, bytes
 --   1 SmallUnreliable  the same without the ids
 -- `ids` tells the two apart. Assumes nothing.
-use Rattle.std.specs.Prelude.{ℕ, zero, suc, ◌+◌, ◌*◌, Bool, true, false, List, [], ◌∷◌, length, leb}
+use Rattle.std.specs.Prelude.{ℕ, zero, suc, ◌+◌, ◌*◌, Bool, true, false, List, [], ◌∷◌, length, leb, Result, Ok, Err}
 use Rattle.words.specs.Choice.{pick}
 use Rattle.words.specs.Lists.{splice}
 use Rattle.words.specs.Refusal.{number_of}
 use Rattle.octets.specs.Reader.{Res, ok, fault, Reader, ◌>>=◌, give, byte, pair}
 use Rattle.octets.specs.Varint.{var, run}
-use Rattle.packet_small.specs.declared.Item.{Item}
-use Rattle.packet_small.specs.declared.Item.TheVariants as item
-use Rattle.packet_small.specs.declared.SmallRead.{SmallRead}
-use Rattle.packet_small.specs.declared.SmallRead.TheVariants as read
+use Rattle.words.specs.declared.Refusal.{Refusal}
+use Rattle.packet_small.specs.declared.Message as item
+use Rattle.packet_small.specs.declared.Small as read
 
 -- ---- the layout
 
@@ -86,10 +85,10 @@ told (fault e) = fault e
 
 -- ---- what the code's answers say
 
-abbrev pub item_of : Item → Res Message
-item_of (item.Found id place len) = ok (record { id = id.0; place = place; len = len }) (place + len)
-item_of item.Cut = fault 1
+abbrev pub item_of : Result item.Message Refusal → Res Message
+item_of (Ok m) = ok (record { id = m.id.0; place = m.place; len = m.len }) (m.place + m.len)
+item_of (Err e) = fault (number_of e)
 
-abbrev pub read_of : SmallRead → Res Told
-read_of (read.Whole p next) = ok (record { sequence = p.sequence.0; channel = p.channel_id; count = p.count }) next
-read_of (read.Refused e) = fault (number_of e)
+abbrev pub read_of : Result (read.Small × ℕ) Refusal → Res Told
+read_of (Ok (p, next)) = ok (record { sequence = p.sequence.0; channel = p.channel_id; count = p.count }) next
+read_of (Err e) = fault (number_of e)

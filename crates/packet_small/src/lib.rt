@@ -2,104 +2,76 @@
 // Packets of small messages, read and written: type 0, SmallReliable, and type 1, SmallUnreliable,
 // which is the same without the ids. `ids` tells the two apart.
 //
-// Messages are named by a lent table, three words for each: id, place, length. The reader walks the
+// Messages are named by a lent table, three words for each: id, place, length. Words and no records,
+// since `packet::from_bytes` and `packet::to_bytes` are lent them so. The reader walks the
 // input twice, and each message takes at least a byte of it, so a packet that claims more messages
 // than it has costs no more than its own length. The writer judges the whole table before it writes.
-ghost use Rattle.std.specs.Prelude.{◌≡◌, true, false, map, ◌+◌, ◌*◌, ◌≤◌, ◌<◌, length, leb};
+ghost use Rattle.std.specs.Prelude.{◌≡◌, true, map, ◌+◌, ◌*◌, ◌≤◌, ◌<◌, length, leb};
 ghost use Rattle.words.specs.Sizes.{LIMIT, MAX_MESSAGES};
-ghost use Rattle.words.specs.Choice.{pick};
-ghost use Rattle.words.specs.Lists.{splice, all, reached, total};
+ghost use Rattle.words.specs.Lists.{splice, all, total};
 ghost use Rattle.octets.specs.Reader.{num_of, Good};
 ghost use Rattle.octets.specs.Writer.{put_of, left};
 ghost use Rattle.packet_small.specs.Small.{id_of, message, messages, small, RECORD, judged, tabled, told, item_of, read_of};
-ghost use Rattle.packet_small.specs.Write.{type_byte_of, id_bytes, id_said, said_of, message_bytes, messages_bytes, head_bytes, listed, stored, sayable, small_of, put_small_of};
-ghost use Rattle.packet_small.specs.Steps.{walk_of, filled, head_len, id_len_of, message_len, size, said, record_of, fresh, spent, judgement};
+ghost use Rattle.packet_small.specs.Write.{type_byte_of, id_bytes, id_said, said_of, message_bytes, messages_bytes, head_bytes, listed, stored, sayable, record_at, small_of, put_small_of};
+ghost use Rattle.packet_small.specs.Steps.{walk_of, filled, head_len, id_len_of, message_len, size, said, record_of};
 
-use octets::{Got, Put, Run};
 use words::{LIMIT, MAX_MESSAGES, MessageId, Refusal, Sequence};
 
 // Words of the table for each message.
 pub const RECORD: usize = 3;
 
 // Bytes before the messages beside the sequence: type, channel and two-byte count.
-const HEAD: usize = 4;
+pub const HEAD: usize = 4;
 
-// A message in the input: its id, where its bytes start, and how many they are; or the input ends early.
+// A message in the input or in a store: its id, where its bytes start, and how many they are.
 #[derive(Clone, Copy)]
-enum Item {
-    Found(MessageId, usize, usize),
-    Cut,
+struct Message {
+    id: MessageId,
+    place: usize,
+    len: usize,
 }
 
 // What a packet says beside its messages, and how many they are.
-#[derive(Clone, Copy)]
+#[derive(Clone, Copy, Debug, PartialEq, Eq)]
 pub struct Small {
     pub sequence: Sequence,
     pub channel_id: u8,
     pub count: usize,
 }
 
-// A whole packet and the place after it, or the refusal.
-#[derive(Clone, Copy)]
-pub enum SmallRead {
-    Whole(Small, usize),
-    Refused(Refusal),
-}
-
-// The place after a run of messages, or the input ends early.
-#[derive(Clone, Copy)]
-enum Walk {
-    Until(usize),
-    Lost,
-}
-
-// What the writer knows of the messages judged so far: whether all are parts of the store, whether
-// varints can say all their numbers, whether all fit, and the room that is then left.
-#[derive(Clone, Copy)]
-struct Judgement {
-    stored: bool,
-    sayable: bool,
-    fits: bool,
-    spare: usize,
-}
-
 // The id at a place, where the kind has ids.
-fn get_id(s: &[u8], at: usize, ids: bool) -> Got
+fn get_id(s: &[u8], at: usize, ids: bool) -> Result<(u64, usize), Refusal>
     ensures { num_of result ≡ id_of ids s.now at }
 {
     if ids {
         return octets::get_varint(s, at);
     }
-    Got::Value(0, at)
+    Ok((0, at))
 }
 
 // The message at a place.
-fn get_message(s: &[u8], at: usize, ids: bool) -> Item
+fn get_message(s: &[u8], at: usize, ids: bool) -> Result<Message, Refusal>
     ensures { item_of result ≡ message ids s.now at }
 {
-    let Got::Value(id, a) = get_id(s, at, ids) else {
-        return Item::Cut;
-    };
-    let Run::At(place, len) = octets::get_bytes_with_varint_length(s, a) else {
-        return Item::Cut;
-    };
-    Item::Found(MessageId(id), place, len)
+    let (id, a) = get_id(s, at, ids)?;
+    let (place, len) = octets::get_bytes_with_varint_length(s, a)?;
+    Ok(Message {
+        id: MessageId(id),
+        place,
+        len,
+    })
 }
 
 // The place after n messages.
-fn walk_messages(s: &[u8], from: usize, ids: bool, n: usize) -> Walk
-    ensures { result ≡ walk_of (messages ids n s.now from) }
+fn walk_messages(s: &[u8], from: usize, ids: bool, n: usize) -> Result<usize, Refusal>
+    ensures { put_of result ≡ walk_of (messages ids n s.now from) }
 {
     let mut at = from;
-    let mut left = n;
-    while 0 < left {
-        let Item::Found(_, place, len) = get_message(s, at, ids) else {
-            return Walk::Lost;
-        };
-        at = place + len;
-        left -= 1;
+    for _ in 0..n {
+        let m = get_message(s, at, ids)?;
+        at = m.place + m.len;
     }
-    Walk::Until(at)
+    Ok(at)
 }
 
 // Fills the table with n messages that were walked before.
@@ -109,52 +81,47 @@ fn fill_table(s: &[u8], from: usize, ids: bool, n: usize, table: &mut [u64])
     ensures { table.new ≡ filled (messages ids n s.now from) 0 table.old }
 {
     let mut at = from;
-    let mut i = 0;
-    while i < n {
-        let Item::Found(id, place, len) = get_message(s, at, ids) else {
-            return;
-        };
+    for i in 0..n {
+        let m = get_message(s, at, ids).unwrap();
         let j = RECORD * i;
-        table[j] = id.0;
-        table[j + 1] = place as u64;
-        table[j + 2] = len as u64;
-        at = place + len;
-        i += 1;
+        table[j] = m.id.0;
+        table[j + 1] = m.place as u64;
+        table[j + 2] = m.len as u64;
+        at = m.place + m.len;
     }
 }
 
 // Reads what follows the type byte, from a place on, and fills the table if all is good and it is large enough.
-pub fn read_small(s: &[u8], at: usize, ids: bool, table: &mut [u64]) -> SmallRead
+pub fn read_small(
+    s: &[u8],
+    at: usize,
+    ids: bool,
+    table: &mut [u64],
+) -> Result<(Small, usize), Refusal>
     ensures { (read_of result ≡ told (judged (small ids s.now at) (length table.old)))
         × (table.new ≡ tabled (judged (small ids s.now at) (length table.old)) table.old) }
 {
-    let Got::Value(seq, a) = octets::get_varint(s, at) else {
-        return SmallRead::Refused(Refusal::BufferTooShort);
-    };
+    let (seq, a) = octets::get_varint(s, at)?;
     if s.len() <= a {
-        return SmallRead::Refused(Refusal::BufferTooShort);
+        return Err(Refusal::BufferTooShort);
     }
     let channel_id = s[a];
-    let Got::Value(k, b) = octets::get_u16(s, a + 1) else {
-        return SmallRead::Refused(Refusal::BufferTooShort);
-    };
+    let (k, b) = octets::get_u16(s, a + 1)?;
     let count = k as usize;
-    let Walk::Until(next) = walk_messages(s, b, ids, count) else {
-        return SmallRead::Refused(Refusal::BufferTooShort);
-    };
+    let next = walk_messages(s, b, ids, count)?;
     if table.len() / RECORD < count {
-        return SmallRead::Refused(Refusal::TableFull);
+        return Err(Refusal::TableFull);
     }
     fill_table(s, b, ids, count, table);
     let sequence = Sequence(seq);
-    SmallRead::Whole(
+    Ok((
         Small {
             sequence,
             channel_id,
             count,
         },
         next,
-    )
+    ))
 }
 
 // How many bytes an id takes.
@@ -167,88 +134,65 @@ fn id_len(ids: bool, id: u64) -> usize
     0
 }
 
-// Whether all before were parts of a store of m bytes, and this one is.
-fn still_stored(before: bool, place: u64, len: u64, m: usize) -> bool
-    ensures { result ≡ pick before (leb (place + len) m) false }
+// The message of a record of the table.
+fn message_at(table: &[u64], i: usize) -> Message
+    requires { RECORD * i + RECORD ≤ length table.now }
+    ensures { record_of result.id.0 result.place result.len ≡ record_at table.now i }
 {
-    if !before {
-        return false;
+    let j = RECORD * i;
+    Message {
+        id: MessageId(table[j]),
+        place: table[j + 1] as usize,
+        len: table[j + 2] as usize,
     }
-    let end = m as u64;
-    if end < place {
-        return false;
-    }
-    len <= end - place
 }
 
-// Whether varints can say all numbers before, and these.
-fn still_sayable(before: bool, ids: bool, id: u64, len: u64) -> bool
-    ensures { result ≡ pick before (sayable ids (record_of id 0 len)) false }
+// Whether the bytes of all messages of a table are parts of a store of m bytes.
+fn all_stored(table: &[u64], count: usize, m: usize) -> bool
+    requires { RECORD * count ≤ length table.now }
+    ensures { result ≡ all (stored m) (listed table.now 0 count) }
 {
-    if !before {
-        return false;
-    }
-    if LIMIT <= len {
-        return false;
-    }
-    if ids {
-        return id < LIMIT;
+    for i in 0..count {
+        let e = message_at(table, i);
+        if m < e.place || m - e.place < e.len {
+            return false;
+        }
     }
     true
 }
 
-impl Judgement {
-    // Takes n bytes of the room, or finds that they don't fit.
-    fn spend(mut self, n: usize) -> Self
-        ensures { result ≡ spent n self }
-    {
-        let spare = self.spare;
-        if spare < n {
-            self.fits = false;
-            self.spare = 0;
-            return self;
-        }
-        self.spare = spare - n;
-        self
-    }
-}
-
-// Judges the room for what stands before the messages, at a place of m bytes.
-fn judge_head(m: usize, at: usize, sequence: Sequence) -> Judgement
-    ensures { result ≡ spent (at + head_len sequence.0) (fresh m) }
-{
-    let j = Judgement {
-        stored: true,
-        sayable: true,
-        fits: true,
-        spare: m,
-    };
-    j.spend(at).spend(octets::form_len(sequence.0) + HEAD)
-}
-
-// Judges one message more, whose bytes are to be a part of m bytes.
-fn judge_message(mut j: Judgement, ids: bool, m: usize, id: u64, place: u64, len: u64) -> Judgement
-    ensures { result ≡ judgement ids m j (record_of id place len) }
-{
-    j.stored = still_stored(j.stored, place, len, m);
-    j.sayable = still_sayable(j.sayable, ids, id, len);
-    j.spend(id_len(ids, id) + octets::form_len(len))
-        .spend(len as usize)
-}
-
-// Judges the messages of a table, whose bytes are to be parts of m bytes, after what was judged before.
-fn judge_messages(first: Judgement, ids: bool, m: usize, table: &[u64], count: usize) -> Judgement
+// Whether varints can say all numbers of the messages of a table.
+fn all_sayable(table: &[u64], count: usize, ids: bool) -> bool
     requires { RECORD * count ≤ length table.now }
-    ensures { result ≡ reached (judgement ids m) first (listed table.now 0 count) }
+    ensures { result ≡ all (sayable ids) (listed table.now 0 count) }
 {
-    let mut j = first;
-    let mut i = 0;
-    while i < count {
-        let k = RECORD * i;
-        j = judge_message(j, ids, m, table[k], table[k + 1], table[k + 2]);
-        i += 1;
+    for i in 0..count {
+        let e = message_at(table, i);
+        if ids && LIMIT <= e.id.0 {
+            return false;
+        }
+        if LIMIT <= e.len as u64 {
+            return false;
+        }
     }
-    j
+    true
+}
+
+// Whether all messages of a table, written, fit in some room.
+fn all_fit(table: &[u64], count: usize, ids: bool, room: usize) -> bool
+    requires { RECORD * count ≤ length table.now }
+    ensures { result ≡ leb (total (size ids) (listed table.now 0 count)) room }
+{
+    let mut spare = room;
+    for i in 0..count {
+        let e = message_at(table, i);
+        let head = id_len(ids, e.id.0) + octets::form_len(e.len as u64);
+        if spare < head || spare - head < e.len {
+            return false;
+        }
+        spare = spare - head - e.len;
+    }
+    true
 }
 
 // The type of a packet.
@@ -318,13 +262,10 @@ fn write_messages(
         × (out.new ≡ splice from (messages_bytes ids (map (said_of ids store.now) (listed table.now 0 count))) out.old) }
 {
     let mut at = from;
-    let mut i = 0;
-    while i < count {
-        let j = RECORD * i;
-        let place = table[j + 1] as usize;
-        let end = place + (table[j + 2] as usize);
-        at = write_message(out, at, ids, MessageId(table[j]), &store[place..end]);
-        i += 1;
+    for i in 0..count {
+        let e = message_at(table, i);
+        let end = e.place + e.len;
+        at = write_message(out, at, ids, e.id, &store[e.place..end]);
     }
     at
 }
@@ -337,36 +278,26 @@ pub fn put_small(
     packet: Small,
     table: &[u64],
     store: &[u8],
-) -> Put
+) -> Result<usize, Refusal>
     ensures { (put_of result ≡ put_small_of ids packet.sequence.0 packet.channel_id table.now packet.count store.now at (length out.old))
         × (out.new ≡ left (put_of result) at (small_of ids packet.sequence.0 packet.channel_id table.now packet.count store.now) out.old) }
 {
     let count = packet.count;
-    if table.len() / RECORD < count {
-        return Put::Refused(Refusal::BadStore);
+    if table.len() / RECORD < count || !all_stored(table, count, store.len()) {
+        return Err(Refusal::BadStore);
     }
     let sequence = packet.sequence;
-    let head = judge_head(out.len(), at, sequence);
-    let j = judge_messages(head, ids, store.len(), table, count);
-    let stored = j.stored;
-    if !stored {
-        return Put::Refused(Refusal::BadStore);
-    }
-    let seq = sequence.0;
-    if LIMIT <= seq {
-        return Put::Refused(Refusal::BadNumber);
-    }
-    let sayable = j.sayable;
-    if !sayable {
-        return Put::Refused(Refusal::BadNumber);
+    if LIMIT <= sequence.0 || !all_sayable(table, count, ids) {
+        return Err(Refusal::BadNumber);
     }
     if MAX_MESSAGES < count {
-        return Put::Refused(Refusal::TooLong);
+        return Err(Refusal::TooLong);
     }
-    let fits = j.fits;
-    if !fits {
-        return Put::Refused(Refusal::BufferTooShort);
+    let room = out.len().saturating_sub(at);
+    let head = octets::form_len(sequence.0) + HEAD;
+    if room < head || !all_fit(table, count, ids, room - head) {
+        return Err(Refusal::BufferTooShort);
     }
     let a = write_head(out, at, ids, packet);
-    Put::To(write_messages(out, a, ids, table, count, store))
+    Ok(write_messages(out, a, ids, table, count, store))
 }

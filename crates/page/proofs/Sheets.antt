@@ -73,39 +73,40 @@ module _ (w : Before) (sh : Sheet) where
   spelt-none zero = refl
   spelt-none (suc n) = refl
 
-  spelt-zero : (xs : List ℕ) → spelt_from 0 w xs sh ≡ sh
-  unfolding spelt_from
-  spelt-zero xs = refl
-
 past-drop : (s : List ℕ) (i n : ℕ) → i < length s → drop (max 1 n) (drop i s) ≡ drop (past_of (length s) i n) s
 past-drop s i n h =
     let q : past_of (length s) i n ≡ min (length s) (i + max 1 n) = rw (lt-leb (length s) i h) refl in
     drop-drop (max 1 n) i s ∙ sym (drop_min s (i + max 1 n)) ∙ ap (λ (j : ℕ). drop j s) (sym q)
 
-module _ (s : List ℕ) (i left : ℕ) (w : Before) (p : Part) (sh all : Sheet) (h : i < length s) (l : 0 < left) (e : p ≡ part_at (drop i s)) where
-  spelt-step : spelt_from left w (drop i s) sh ≡ spelt_from (left - 1) (kind_of p) (drop (past_of (length s) i (length_of p)) s) (put WIDEST WIDEST (point_of w p ++ text_of p) sh)
-  spelt-step =
-      let one : left ≡ suc (left - 1) = omega arith in
+-- what is left of the bytes, from i on, gives what the whole gives: in as many parts as there are bytes left, or more
+pub record Spells (s : List ℕ) (i : ℕ) (w : Before) (sh all : Sheet) : Type 0 where
+  pub most : ℕ
+  pub enough : length s ≤ i + most
+  pub gives : spelt_from most w (drop i s) sh ≡ all
+
+module _ (s : List ℕ) (i : ℕ) (w : Before) (p : Part) (sh all : Sheet) (h : i < length s) (e : p ≡ part_at (drop i s)) where
+  spelt-step : (most : ℕ) → 0 < most → spelt_from most w (drop i s) sh ≡ spelt_from (most - 1) (kind_of p) (drop (past_of (length s) i (length_of p)) s) (put WIDEST WIDEST (point_of w p ++ text_of p) sh)
+  spelt-step most l =
+      let one : most ≡ suc (most - 1) = omega arith in
       let some : 0 < length (drop i s) = omega (arith, length-drop i s) in
       let cut : drop (max 1 (length_of p)) (drop i s) ≡ drop (past_of (length s) i (length_of p)) s = past-drop s i (length_of p) h in
-      let front : spelt_from (suc (left - 1)) w (drop i s) sh ≡ spelt_from (left - 1) (kind_of p) (drop (max 1 (length_of p)) (drop i s)) (put WIDEST WIDEST (point_of w p ++ text_of p) sh) = rw e (spelt-front w sh (left - 1) (drop i s) some) in
-      ap (λ (n : ℕ). spelt_from n w (drop i s) sh) one ∙ front ∙ ap (λ (t : List ℕ). spelt_from (left - 1) (kind_of p) t (put WIDEST WIDEST (point_of w p ++ text_of p) sh)) cut
+      let front : spelt_from (suc (most - 1)) w (drop i s) sh ≡ spelt_from (most - 1) (kind_of p) (drop (max 1 (length_of p)) (drop i s)) (put WIDEST WIDEST (point_of w p ++ text_of p) sh) = rw e (spelt-front w sh (most - 1) (drop i s) some) in
+      ap (λ (n : ℕ). spelt_from n w (drop i s) sh) one ∙ front ∙ ap (λ (t : List ℕ). spelt_from (most - 1) (kind_of p) t (put WIDEST WIDEST (point_of w p ++ text_of p) sh)) cut
 
-  pub spelt-again : (left' i' : ℕ) (w' : Before) (sh' : Sheet) → left' ≡ left - 1 → i' ≡ past_of (length s) i (length_of p) → w' ≡ kind_of p → sh' ≡ put WIDEST WIDEST (point_of w p ++ text_of p) sh → spelt_from left w (drop i s) sh ≡ all → spelt_from left' w' (drop i' s) sh' ≡ all
-  spelt-again left' i' w' sh' a b c d inv = rw (a, b, c, d) (sym spelt-step ∙ inv)
+  pub spelt-again : (i' : ℕ) (w' : Before) (sh' : Sheet) → i' ≡ past_of (length s) i (length_of p) → i < i' → w' ≡ kind_of p → sh' ≡ put WIDEST WIDEST (point_of w p ++ text_of p) sh → Spells s i w sh all → Spells s i' w' sh' all
+  spelt-again i' w' sh' b n c d inv = record {
+    most = inv.most - 1;
+    enough = omega (arith, inv.enough);
+    gives = rw (b, c, d) (sym (spelt-step inv.most (omega (arith, inv.enough))) ∙ inv.gives);
+  }
 
-pub spelt-start : (s : List ℕ) (sh : Sheet) → 0 < length s → spelt_from (length s) Nothing s sh ≡ spelt s sh
+pub spelt-start : (s : List ℕ) (sh : Sheet) → 0 < length s → Spells s 0 Nothing sh (spelt s sh)
 unfolding spelt
 spelt-start [] sh h = absurd (not-suc-le-zero h)
-spelt-start (x ∷ s) sh h = refl
+spelt-start (x ∷ s) sh h = record { most = length (x ∷ s); enough = omega arith; gives = refl }
 
-pub spelt-short : (s : List ℕ) (i left : ℕ) (w : Before) (sh all : Sheet) → length s ≤ i → spelt_from left w (drop i s) sh ≡ all → sh ≡ all
-spelt-short s i left w sh all h inv = sym (spelt-none w sh left) ∙ ap (λ (t : List ℕ). spelt_from left w t sh) (sym (drop_of_length-le s h)) ∙ inv
-
-pub spelt-end : (s : List ℕ) (i left : ℕ) (w : Before) (sh all : Sheet) → left ≤ 0 → spelt_from left w (drop i s) sh ≡ all → sh ≡ all
-spelt-end s i left w sh all h inv =
-    let zeroed : left ≡ 0 = omega arith in
-    sym (spelt-zero w sh (drop i s)) ∙ ap (λ (n : ℕ). spelt_from n w (drop i s) sh) (sym zeroed) ∙ inv
+pub spelt-end : (s : List ℕ) (i : ℕ) (w : Before) (sh all : Sheet) → length s ≤ i → Spells s i w sh all → sh ≡ all
+spelt-end s i w sh all h inv = sym (spelt-none w sh inv.most) ∙ ap (λ (t : List ℕ). spelt_from inv.most w t sh) (sym (drop_of_length-le s h)) ∙ inv.gives
 
 pub spelt-nothing : (s : List ℕ) (sh sh' : Sheet) → length s ≡ 0 → sh' ≡ said (ascii "-") sh → sh' ≡ spelt s sh
 unfolding spelt

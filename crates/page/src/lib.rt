@@ -1,8 +1,7 @@
 #![tactic(auto)]
 // A page of text that waits to be written: words, numbers and bytes are set down one after the other, and
 // what stands there is written out when there is no room.
-ghost use Rattle.std.specs.Prelude.{◌≡◌, List, [], ◌∷◌, ◌++◌, ◌+◌, ◌-◌, ◌^◌, ◌≤◌, ◌<◌, min, length, get_or, drop, eqb};
-ghost use Rattle.io.specs.Counts.{IsPrefixLen};
+ghost use Rattle.std.specs.Prelude.{◌≡◌, List, [], ◌∷◌, ◌++◌, ◌+◌, ◌-◌, ◌^◌, ◌≤◌, ◌<◌, min, length, get_or, take, drop, eqb};
 ghost use Rattle.words.specs.Choice.{pick};
 ghost use Rattle.script.specs.Ascii.{ascii};
 ghost use Rattle.say.specs.Spelled.{WIDEST, point_of, text_of};
@@ -20,34 +19,18 @@ const DIGITS: usize = 20;
 // The most letters of a refusal.
 const REFUSAL: usize = 40;
 
-// So many bytes of a buffer, or all if it has fewer.
-pub fn part(n: usize, s: &[u8]) -> usize
-    ensures { (result ≡ min n (length s.now)) × IsPrefixLen result s.now }
+// So many elements of a buffer or a table, or all if it has fewer.
+pub fn part<T>(n: usize, s: &[T]) -> usize
+    ensures { (result ≡ min n (length s.now)) × (result ≤ length s.now) × (result ≡ length (take result s.now)) }
 {
-    if n < s.len() {
-        return n;
-    }
-    s.len()
-}
-
-// So many words of a table, or all if it has fewer.
-pub fn words_part(n: usize, t: &[u64]) -> usize
-    ensures { (result ≡ min n (length t.now)) × IsPrefixLen result t.now }
-{
-    if n < t.len() {
-        return n;
-    }
-    t.len()
+    n.min(s.len())
 }
 
 // The words of a table from a place on.
 pub fn words_from(t: &[u64], from: usize) -> &[u64]
     ensures { result.now ≡ drop from t.now }
 {
-    if from <= t.len() {
-        return &t[from..];
-    }
-    &t[..0]
+    &t[from.min(t.len())..]
 }
 
 // Writes out what stands on the page before a place. The next place is the front.
@@ -63,10 +46,7 @@ pub fn flush(page: &[u8], at: usize) -> usize
 fn room(page: &[u8], at: usize, n: usize) -> usize
     ensures { result ≡ place_for n (sheet page.now at) }
 {
-    if page.len() < at {
-        return flush(page, at);
-    }
-    if page.len() - at < n {
+    if page.len() < at || page.len() - at < n {
         return flush(page, at);
     }
     at
@@ -101,20 +81,14 @@ pub fn refusal(page: &mut [u8], at: usize, e: Refusal) -> usize
 pub fn after(i: usize) -> usize
     ensures { result ≡ min (i + 1) (2 ^ 64 - 1) }
 {
-    if i < usize::MAX {
-        return i + 1;
-    }
-    i
+    i.saturating_add(1)
 }
 
 // The word at a place of a table, or 0.
 pub fn word(t: &[u64], i: usize) -> u64
     ensures { result ≡ get_or t.now i 0 }
 {
-    if i < t.len() {
-        return t[i];
-    }
-    0
+    t.get(i).copied().unwrap_or(0)
 }
 
 // The same as a size.
@@ -150,10 +124,8 @@ pub fn line(page: &mut [u8], at: usize, s: &[u8], numbers: &[u64]) -> usize
     ensures { sheet page.new result ≡ lined s.now numbers.now (sheet page.old at) }
 {
     let mut t = Next { at, k: 0 };
-    let mut i = 0;
-    while i < s.len() {
-        t = letter(page, t, s[i], numbers);
-        i += 1;
+    for c in s {
+        t = letter(page, t, *c, numbers);
     }
     t.at
 }
@@ -162,32 +134,26 @@ pub fn line(page: &mut [u8], at: usize, s: &[u8], numbers: &[u64]) -> usize
 pub fn yes(page: &mut [u8], at: usize, holds: bool) -> usize
     ensures { sheet page.new result ≡ said (pick holds (ascii "yes") (ascii "no")) (sheet page.old at) }
 {
-    if holds {
-        return text(page, at, b"yes");
-    }
-    text(page, at, b"no")
+    let s: &[u8] = if holds { b"yes" } else { b"no" };
+    text(page, at, s)
 }
 
 // Says bytes in the spelling of a script.
 pub fn bytes(page: &mut [u8], at: usize, s: &[u8]) -> usize
     ensures { sheet page.new result ≡ spelt s.now (sheet page.old at) }
 {
-    if s.len() == 0 {
+    if s.is_empty() {
         return text(page, at, b"-");
     }
     let mut a = at;
     let mut i = 0;
     let mut before = Before::Nothing;
-    let mut left = s.len();
-    while 0 < left {
-        if s.len() <= i {
-            return a;
-        }
+    // a part is one byte or many, so no `for` steps as this does
+    while i < s.len() {
         let p = say::next_part(s, i);
         a = spell(page, a, before, p);
         i = say::past_part(s, i, p);
         before = say::part_kind(p);
-        left -= 1;
     }
     a
 }
@@ -196,10 +162,7 @@ pub fn bytes(page: &mut [u8], at: usize, s: &[u8]) -> usize
 pub fn sum(a: usize, b: usize) -> usize
     ensures { result ≡ min (a + b) (2 ^ 64 - 1) }
 {
-    if usize::MAX - a < b {
-        return usize::MAX;
-    }
-    a + b
+    a.saturating_add(b)
 }
 
 // Says one part of bytes.

@@ -1,48 +1,39 @@
--- What is answered where a sequence is asked for: the one range that halving leaves tells. Assumes nothing.
-use Prim.Native.Nat.{ℕ, suc, ◌≤◌, ◌<◌}
-use mathlib.Core.Path.{◌≡◌, sym, ap, ◌∙◌}
-use native.Mathlib.Numerals.{add-one}
+-- What is answered where a sequence is asked for: the last range that starts at or below it tells. Assumes nothing.
+use Prim.Native.Nat.{ℕ, suc, ◌-◌, ◌≤◌, ◌<◌}
+use mathlib.Core.Path.{◌≡◌}
 use native.Mathlib.Omega.{arith}
-use borrow.Author.Tests.{lt-ltb, le-ltb, le-leb, lt-leb}
-use lib.ListN.{get_or}
+use borrow.Author.Tests.{le-leb, lt-leb}
+use lib.Dec.{ltb}
 use mathlib.Core.List.{List}
+use Rattle.std.specs.Prelude.{Ok}
 use Rattle.words.specs.Sizes.{LIMIT}
-use Rattle.words.specs.Choice.{pick}
+use Rattle.words.proofs.Tables.{by-test}
 use Rattle.packet_ack.specs.declared.Range.{Range}
-use Rattle.pending_acks.specs.declared.PendingAcks.{PendingAcks}
-use Rattle.pending_acks.specs.Gather.{range, holds, named, ranges_in_of, ranges_of, Valid, yes, no, refused, reply}
-use Rattle.pending_acks.specs.Steps.{Sought}
-use Rattle.pending_acks.proofs.Tables.{length-ranges, ranges-at}
-use Rattle.pending_acks.proofs.Ranges.{one-is-all}
+use Rattle.packet_ack.specs.Write.{record_at}
+use Rattle.pending_acks.specs.Gather.{range, holds, named, Rising, no, refused, reply, reply_of}
+use Rattle.pending_acks.specs.Steps.{Placed}
+use Rattle.pending_acks.proofs.Ranges.{one-is-all, none-beyond, beyond-first}
 
 pub too_large : (rs : List Range) (x : ℕ) → LIMIT ≤ x → refused 13 ≡ reply rs x
 unfolding reply
 too_large rs x h = rw (le-leb _ _ h)
 
-pub none-there : (g : PendingAcks) (x : ℕ) → x < LIMIT → g.count ≡ 0 → no ≡ reply (ranges_of g) x
-unfolding reply ranges_in_of named
-none-there g x h e = rw (lt-leb _ _ h, e)
-
-module _ (g : PendingAcks) (v : Valid g) (x k : ℕ) (h : x < LIMIT) (s : Sought g.starts 0 g.count x k) where
-  -- the law: looking at the one range that is left is looking at every range
-  pub one-tells : named (ranges_of g) x ≡ holds (range (get_or g.starts k 0) (get_or g.ends k 0)) x
-  one-tells =
-      let l = s.last in
-      let n = length-ranges g.count g.starts g.ends in
-      one-is-all x (range 0 0) 0 (ranges_of g) k v.rises (omega arith)
-      (λ some. rw (ranges-at g.count g.starts g.ends k (range 0 0) (omega arith)) (s.low some))
-      (λ next. rw (ranges-at g.count g.starts g.ends (suc k) (range 0 0) (omega arith)) (rw add-one at (s.high (omega arith))))
-      ∙ ap (λ (r : Range). holds r x) (ranges-at g.count g.starts g.ends k (range 0 0) (omega arith))
-
-  replies : reply (ranges_of g) x ≡ pick (holds (range (get_or g.starts k 0) (get_or g.ends k 0)) x) yes no
+module _ (rs : List Range) (w : Rising 0 rs) (x k : ℕ) (h : x < LIMIT) (p : Placed rs x k) where
+  pub says_none : k ≡ 0 → no ≡ reply rs x
   unfolding reply
-  replies = rw (lt-leb _ _ h, one-tells)
+  says_none e = rw (lt-leb _ _ h, none-beyond 0 rs x w (beyond-first x rs (range 0 0) (λ s. rw e at (p.high (omega arith)))))
 
-  pub says-below : x < get_or g.starts k 0 → no ≡ reply (ranges_of g) x
-  says-below t = sym (replies ∙ simp (lt-leb _ _ t))
+  module _ (some : 0 < k) where
+    -- the law: looking at the one range that is left is looking at every range
+    pub one-tells : named rs x ≡ holds (record_at rs (k - 1)) x
+    one-tells =
+        let l = p.within in
+        let e : suc (k - 1) ≡ k = omega arith in
+        one-is-all x (range 0 0) 0 rs (k - 1) w (omega arith) (λ s. p.low some) (λ s. rw e (p.high (omega arith)))
 
-  pub says-in : get_or g.starts k 0 ≤ x → x < get_or g.ends k 0 → yes ≡ reply (ranges_of g) x
-  says-in t u = sym (replies ∙ simp (le-leb _ _ t, lt-ltb _ _ u))
-
-  pub says-above : get_or g.starts k 0 ≤ x → get_or g.ends k 0 ≤ x → no ≡ reply (ranges_of g) x
-  says-above t u = sym (replies ∙ simp (le-leb _ _ t, le-ltb _ _ u))
+    pub says : reply_of (Ok (ltb x (record_at rs (k - 1)).end)) ≡ reply rs x
+    unfolding reply
+    says =
+        by-test (ltb x (record_at rs (k - 1)).end)
+        (λ t. rw (lt-leb _ _ h, one-tells, le-leb _ _ (p.low some), t))
+        (λ t. rw (lt-leb _ _ h, one-tells, le-leb _ _ (p.low some), t))

@@ -1,5 +1,4 @@
 pub mod Tables
-pub mod Halving
 pub mod Ranges
 pub mod Spots
 pub mod Valid

@@ -35,6 +35,12 @@ start-above m [] j d w h = absurd (not-suc-le-zero h)
 start-above m (r ∷ rs) zero d w h = w.0
 start-above m (r ∷ rs) (suc j) d w h = let k = start-above (r.end + 1) rs j d w.3 (le_of_suc-le-suc h) in omega arith
 
+-- two neighbours as one still rise
+pub rising-one : (m : ℕ) (bs es : List Range) (r q : Range) → Rising m (bs ++ r ∷ q ∷ es) → Rising m (bs ++ range r.start q.end ∷ es)
+unfolding Rising
+rising-one m [] es r q w = (w.0, omega arith, w.3.2, w.3.3)
+rising-one m (b ∷ bs) es r q w = (w.0, w.1, w.2, rising-one (b.end + 1) bs es r q w.3)
+
 -- x is below the first of them
 unfoldable pub Beyond : ℕ → List Range → Type 0
 Beyond x [] = Unit

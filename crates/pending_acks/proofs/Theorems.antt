@@ -16,13 +16,13 @@ use Rattle.words.specs.Lists.{All}
 use Rattle.words.proofs.Lists.{none-refused}
 use Rattle.words.proofs.Tables.{by-test, part-here}
 use Rattle.octets.specs.Reader.{ok}
-use Rattle.octets.specs.declared.Put.TheVariants.{To}
+use Rattle.std.specs.Prelude.{Ok}
 use Rattle.packet_ack.specs.Ack.{RANGES}
 use Rattle.packet_ack.specs.declared.Range.{Range}
 use Rattle.packet_ack.specs.Write.{rising, listed, ack_bytes, ack_refusal, put_ack}
 use Rattle.packet.specs.Packet as p
 use Rattle.pending_acks.specs.declared.PendingAcks.{PendingAcks}
-use Rattle.pending_acks.specs.Gather.{named, Rising, inserted, gatherer, ranges_in_of, ranges_of, Valid, gathered, added, PacketGives}
+use Rattle.pending_acks.specs.Gather.{named, Rising, inserted, gatherer, ranges_of, Valid, gathered, added, PacketGives}
 use Rattle.pending_acks.specs.Runs.{after, SameSet, WasAdded, mark}
 use Rattle.pending_acks.proofs.Ranges.{Named, is-named, named-is, named-above, unchanged}
 use Rattle.pending_acks.proofs.Valid.{gatherer-valid, kept-all, added-below, ranges-of, count-is}
@@ -156,7 +156,7 @@ pub record Wrote (g : PendingAcks) (seq at n : ℕ) (out' : List ℕ) : Type 0 w
   pub some : 0 < g.count
   pub stands : take (n - at) (drop at out') ≡ ack_bytes seq (ranges_of g)
 
-pub writes : (g : PendingAcks) → Valid g → (seq at n : ℕ) (out out' : List ℕ) → PacketGives g seq at out out' (To n) → Wrote g seq at n out'
+pub writes : (g : PendingAcks) → Valid g → (seq at n : ℕ) (out out' : List ℕ) → PacketGives g seq at out out' (Ok n) → Wrote g seq at n out'
 unfolding put_ack All
 writes g v seq at n out out' r =
     let d = was-done (ack_refusal seq (ranges_of g) g.count at (length out)) (at + length (ack_bytes seq (listed (ranges_of g) 0 g.count))) n r.answer in
@@ -182,7 +182,7 @@ module _ (g h : PendingAcks) (v : Valid g) (w : Valid h) where
       ap (λ (l : List Range). named l y) (bytes-tell seq (ranges_of g) (ranges_of h) s (omega arith) (omega arith) v.rises w.rises e)
 
   -- the same of two calls that were not refused, whatever was lent to them
-  module _ (seq at at' n n' : ℕ) (out out' o o' : List ℕ) (r : PacketGives g seq at out out' (To n)) (q : PacketGives h seq at' o o' (To n')) where
+  module _ (seq at at' n n' : ℕ) (out out' o o' : List ℕ) (r : PacketGives g seq at out out' (Ok n)) (q : PacketGives h seq at' o o' (Ok n')) where
     pub same-set-same-packet : SameSet g h → take (n - at) (drop at out') ≡ take (n' - at') (drop at' o')
     same-set-same-packet e = (writes g v seq at n out out' r).stands ∙ bytes-of-set e seq ∙ sym (writes h w seq at' n' o o' q).stands
 
@@ -197,5 +197,5 @@ pub some-named : (g : PendingAcks) → Valid g → 0 < g.count → (y : ℕ) × 
 some-named g v h = first-named (ranges_of g) v.rises (let c = count-is g v in omega arith)
 
 pub none_named : (g : PendingAcks) → g.count ≡ 0 → (y : ℕ) → named (ranges_of g) y ≡ false
-unfolding named ranges_in_of
+unfolding named
 none_named g e y = rw e

@@ -2,34 +2,25 @@
 use Prim.Native.Nat.{ℕ, ◌+◌, ◌-◌, ◌≤◌, ◌<◌}
 use mathlib.Core.Path.{◌≡◌, refl, sym, ap, ◌∙◌}
 use mathlib.Core.Bool.{Bool, true}
-use mathlib.Core.List.{List, [], ◌∷◌, ◌++◌, map, append_assoc}
+use mathlib.Core.List.{List, [], ◌∷◌, ◌++◌, append_assoc}
+use native.Mathlib.Numerals.{add-one}
 use native.Mathlib.Omega.{arith}
 use borrow.Author.Tests.{lt-ltb, le-ltb, lt-leb, leb-false}
 use lib.Dec.{ltb, leb}
-use lib.ListN.{length, set, drop, length-append, length-drop}
+use lib.ListN.{length, set, take, drop, length-append, length-drop}
+use lib.Seq.{get_or-take, get_or_at, drop-cons, length-take-le}
+use Rattle.std.proofs.lemmas.List.{take-append-drop}
 use Rattle.words.specs.Sizes.{LIMIT}
 use Rattle.words.specs.Choice.{pick}
 use Rattle.words.proofs.Tables.{by-test}
 use Rattle.packet_ack.specs.Ack.{RANGES}
+use Rattle.packet_ack.specs.Write.{record_at}
 use Rattle.packet_ack.specs.declared.Range.{Range}
 use Rattle.pending_acks.specs.declared.PendingAcks.{PendingAcks}
 use Rattle.pending_acks.specs.Gather.{range, Rising, inserted, kept, filled, gatherer, ranges_of, Valid, gathered, added}
 use Rattle.pending_acks.specs.Steps.{moved, Swapped, Joined, Opened}
-use Rattle.pending_acks.proofs.Tables.{length-filled, gone, come, turned, changes, stays, ranges-filled, length-ranges}
-use Rattle.pending_acks.proofs.Ranges.{rising-drop, rising-inserted}
-
-abbrev starting : Range → ℕ
-starting r = r.start
-
-abbrev ending : Range → ℕ
-ending r = r.end
-
--- the tables of ranges
-abbrev starts : List Range → List ℕ
-starts rs = filled RANGES (map starting rs)
-
-abbrev ends : List Range → List ℕ
-ends rs = filled RANGES (map ending rs)
+use Rattle.pending_acks.proofs.Tables.{length-filled, gone, come, turned, changes, ranges-filled}
+use Rattle.pending_acks.proofs.Ranges.{rising-drop, rising-one, rising-inserted}
 
 -- ---- a gatherer of ranges is valid, and has these ranges
 
@@ -57,12 +48,16 @@ pub kept-all : (rs : List Range) (d : Bool) → length rs ≤ RANGES → gathere
 unfolding gathered
 kept-all rs d h = let e : length rs - RANGES ≡ 0 = omega arith in rw (e, le-ltb RANGES (length rs) h)
 
+pub gathered-valid : (rs : List Range) (d : Bool) → Rising 0 rs → Valid (gathered rs d)
+unfolding gathered
+gathered-valid rs d w = gatherer-valid (kept rs) (pick (ltb RANGES (length rs)) true d) (few-kept rs) (rising-drop (length rs - RANGES) 0 rs w)
+
 pub added-valid : (g : PendingAcks) (x : ℕ) → Valid g → Valid (added g x)
-unfolding added gathered
+unfolding added
 added-valid g x v =
     by-test (leb LIMIT x)
     (λ t. rw t v)
-    (λ t. rw t (gatherer-valid (kept (inserted x (ranges_of g))) (pick (ltb RANGES (length (inserted x (ranges_of g)))) true g.dropped) (few-kept (inserted x (ranges_of g))) (rising-drop (length (inserted x (ranges_of g)) - RANGES) 0 (inserted x (ranges_of g)) (rising-inserted 0 x (ranges_of g) (omega arith) (leb-false _ _ t) v.rises))))
+    (λ t. rw t (gathered-valid (inserted x (ranges_of g)) g.dropped (rising-inserted 0 x (ranges_of g) (omega arith) (leb-false _ _ t) v.rises)))
 
 pub added-below : (g : PendingAcks) (x : ℕ) → x < LIMIT → added g x ≡ gathered (inserted x (ranges_of g)) g.dropped
 unfolding added
@@ -70,28 +65,27 @@ added-below g x h = rw (lt-leb _ _ h)
 
 -- ---- by its fields
 
-pub gatherer-is : (g : PendingAcks) (rs : List Range) (d : Bool) → g.count ≡ length rs → g.dropped ≡ d
-    → g.starts ≡ starts rs → g.ends ≡ ends rs → g ≡ gatherer rs d
+pub gatherer-is : (g : PendingAcks) (rs : List Range) (d : Bool) → g.count ≡ length rs → g.dropped ≡ d → g.ranges ≡ filled RANGES rs → g ≡ gatherer rs d
 unfolding gatherer
-gatherer-is g rs d a b s e = λ i. record { count = a i; dropped = b i; starts = s i; ends = e i }
+gatherer-is g rs d a b r = λ i. record { count = a i; dropped = b i; ranges = r i }
+
+drop-record : (rs : List Range) (k : ℕ) → k < length rs → drop k rs ≡ record_at rs k ∷ drop (k + 1) rs
+drop-record rs k h = rw add-one (drop-cons rs k (range 0 0) h)
 
 module _ (g : PendingAcks) (v : Valid g) where
-  starts-are : g.starts ≡ starts (ranges_of g)
+  table-is : g.ranges ≡ filled RANGES (ranges_of g)
   unfolding gatherer
-  starts-are = ap (λ (h : PendingAcks). h.starts) v.whole
+  table-is = ap (λ (h : PendingAcks). h.ranges) v.whole
 
-  ends-are : g.ends ≡ ends (ranges_of g)
-  unfolding gatherer
-  ends-are = ap (λ (h : PendingAcks). h.ends) v.whole
+  pub table-long : length g.ranges ≡ RANGES
+  table-long = ap length table-is ∙ length-filled RANGES _
 
   pub count-is : length (ranges_of g) ≡ g.count
-  count-is = length-ranges g.count g.starts g.ends
+  count-is = let h = v.few in let l = table-long in length-take-le g.count g.ranges (omega arith)
 
-  pub starts-long : length g.starts ≡ RANGES
-  starts-long = ap length starts-are ∙ length-filled RANGES _
-
-  pub ends-long : length g.ends ≡ RANGES
-  ends-long = ap length ends-are ∙ length-filled RANGES _
+  -- one sequence more leaves it valid
+  pub more-valid : {s : PendingAcks} (x : ℕ) → x < LIMIT → s ≡ gathered (inserted x (ranges_of g)) g.dropped → Valid s
+  more-valid x h e = rw e (gathered-valid (inserted x (ranges_of g)) g.dropped (rising-inserted 0 x (ranges_of g) (omega arith) h v.rises))
 
   -- ---- no range changed
 
@@ -107,7 +101,7 @@ module _ (g : PendingAcks) (v : Valid g) where
   same_count s =
       sym count-is ∙ ap length s.was ∙ length-append s.before (s.here ∷ s.after) ∙ sym (length-append s.before _) ∙ sym (ap length s.is)
 
-  pub few-swapped : {rs : List Range} {k : ℕ} {f : Range → Range} → Swapped (ranges_of g) rs k f → length rs ≤ RANGES
+  few-swapped : {rs : List Range} {k : ℕ} {f : Range → Range} → Swapped (ranges_of g) rs k f → length rs ≤ RANGES
   few-swapped {rs} s = let e : g.count ≡ length rs = same_count s in let h = v.few in omega arith
 
   pub in_table : {rs : List Range} {k : ℕ} {f : Range → Range} → Swapped (ranges_of g) rs k f → k < RANGES
@@ -118,27 +112,23 @@ module _ (g : PendingAcks) (v : Valid g) where
       let c = count-is in
       omega arith
 
-  pub end-swapped : {rs : List Range} {k x : ℕ} → Swapped (ranges_of g) rs k (λ (r : Range). range r.start x)
-      → record { count = g.count; dropped = g.dropped; starts = g.starts; ends = set g.ends k x } ≡ gatherer rs g.dropped
-  end-swapped {rs} {k} {x} s =
-      gatherer-is (record { count = g.count; dropped = g.dropped; starts = g.starts; ends = set g.ends k x }) rs g.dropped (same_count s) refl
-      (starts-are ∙ ap starts s.was
-      ∙ ap (filled RANGES) (stays starting s.before s.after s.here (range s.here.start x) refl)
-      ∙ sym (ap starts s.is))
-      (ap (λ (l : List ℕ). set l k x) (ends-are ∙ ap ends s.was)
-      ∙ rw (← s.place) (changes ending s.before s.after s.here (range s.here.start x) RANGES)
-      ∙ sym (ap ends s.is))
+  module _ {rs : List Range} {k : ℕ} (f : Range → Range) (s : Swapped (ranges_of g) rs k f) where
+    -- the range at k, as the table has it
+    here-is : record_at g.ranges k ≡ s.here
+    here-is =
+        let b = ap length s.was ∙ length-append s.before (s.here ∷ s.after) in
+        let p = s.place in
+        let c = count-is in
+        sym (get_or-take g.count g.ranges k (range 0 0) (omega arith)) ∙ ap (λ (l : List Range). record_at l k) s.was ∙ get_or_at s.before s.here s.after (range 0 0) k s.place
 
-  pub start-swapped : {rs : List Range} {k x : ℕ} → Swapped (ranges_of g) rs k (λ (r : Range). range x r.end)
-      → record { count = g.count; dropped = g.dropped; starts = set g.starts k x; ends = g.ends } ≡ gatherer rs g.dropped
-  start-swapped {rs} {k} {x} s =
-      gatherer-is (record { count = g.count; dropped = g.dropped; starts = set g.starts k x; ends = g.ends }) rs g.dropped (same_count s) refl
-      (ap (λ (l : List ℕ). set l k x) (starts-are ∙ ap starts s.was)
-      ∙ rw (← s.place) (changes starting s.before s.after s.here (range x s.here.end) RANGES)
-      ∙ sym (ap starts s.is))
-      (ends-are ∙ ap ends s.was
-      ∙ ap (filled RANGES) (stays ending s.before s.after s.here (range x s.here.end) refl)
-      ∙ sym (ap ends s.is))
+    pub one-swapped : record { count = g.count; dropped = g.dropped; ranges = set g.ranges k (f (record_at g.ranges k)) } ≡ gathered rs g.dropped
+    one-swapped =
+        gatherer-is (record { count = g.count; dropped = g.dropped; ranges = set g.ranges k (f (record_at g.ranges k)) }) rs g.dropped (same_count s) refl
+        (ap (λ (r : Range). set g.ranges k (f r)) here-is
+        ∙ ap (λ (l : List Range). set l k (f s.here)) (table-is ∙ ap (filled RANGES) s.was)
+        ∙ rw (← s.place) (changes s.before s.after s.here (f s.here) RANGES)
+        ∙ sym (ap (filled RANGES) s.is))
+        ∙ sym (kept-all rs g.dropped (few-swapped s))
 
   -- ---- two ranges joined
 
@@ -160,37 +150,63 @@ module _ (g : PendingAcks) (v : Valid g) where
         let c = count-is in
         omega arith
 
-    lower-part : List Range
-    lower-part = j.before ++ j.lower ∷ []
+    -- the two, as the table has them
+    lower-is : record_at g.ranges k ≡ j.lower
+    lower-is =
+        let b = next-too in
+        sym (get_or-take g.count g.ranges k (range 0 0) (omega arith)) ∙ ap (λ (l : List Range). record_at l k) j.was ∙ get_or_at j.before j.lower (j.upper ∷ j.after) (range 0 0) k j.place
 
-    joined-starts : moved (k + 1) (g.count - 1) 0 g.starts ≡ starts rs
-    unfolding lower-part
-    joined-starts =
-        let low : lower-part ++ j.after ≡ j.before ++ j.lower ∷ j.after = append_assoc j.before (j.lower ∷ []) j.after in
-        let both : lower-part ++ j.upper ∷ j.after ≡ j.before ++ j.lower ∷ j.upper ∷ j.after = append_assoc j.before (j.lower ∷ []) (j.upper ∷ j.after) in
-        let l : length lower-part ≡ k + 1 = length-append j.before (j.lower ∷ []) ∙ (let p = j.place in omega arith) in
-        let m : length (lower-part ++ j.after) ≡ g.count - 1 = ap length low ∙ length-append j.before (j.lower ∷ j.after) ∙ (let c = count-joined in let e = ap length j.is ∙ length-append j.before (range j.lower.start j.upper.end ∷ j.after) in omega arith) in
+    upper-is : record_at g.ranges (k + 1) ≡ j.upper
+    upper-is =
+        let b = next-too in
+        let l : length (j.before ++ j.lower ∷ []) ≡ k + 1 = length-append j.before (j.lower ∷ []) ∙ (let p = j.place in omega arith) in
+        sym (get_or-take g.count g.ranges (k + 1) (range 0 0) (omega arith))
+        ∙ ap (λ (l : List Range). record_at l (k + 1)) (j.was ∙ sym (append_assoc j.before (j.lower ∷ []) (j.upper ∷ j.after)))
+        ∙ get_or_at (j.before ++ j.lower ∷ []) j.upper j.after (range 0 0) (k + 1) l
+
+    pub joined-table : moved (k + 1) (g.count - 1) (range 0 0) (set g.ranges k (range (record_at g.ranges k).start (record_at g.ranges (k + 1)).end)) ≡ filled RANGES rs
+    joined-table =
+        let one : Range = range j.lower.start j.upper.end in
+        let low : (j.before ++ one ∷ []) ++ j.after ≡ j.before ++ one ∷ j.after = append_assoc j.before (one ∷ []) j.after in
+        let both : (j.before ++ one ∷ []) ++ j.upper ∷ j.after ≡ j.before ++ one ∷ j.upper ∷ j.after = append_assoc j.before (one ∷ []) (j.upper ∷ j.after) in
+        let l : length (j.before ++ one ∷ []) ≡ k + 1 = length-append j.before (one ∷ []) ∙ (let p = j.place in omega arith) in
+        let m : length ((j.before ++ one ∷ []) ++ j.after) ≡ g.count - 1 = ap length low ∙ length-append j.before (one ∷ j.after) ∙ (let c = count-joined in let e = ap length j.is ∙ length-append j.before (one ∷ j.after) in omega arith) in
         let h = v.few in
-        ap (moved (k + 1) (g.count - 1) 0) (starts-are ∙ ap starts (j.was ∙ sym both))
-        ∙ rw (← l, ← m) (gone starting lower-part j.after j.upper 63 (omega arith))
-        ∙ ap starts low
-        ∙ ap (filled RANGES) (stays starting j.before j.after j.lower (range j.lower.start j.upper.end) refl)
-        ∙ sym (ap starts j.is)
+        ap (λ (r : Range). moved (k + 1) (g.count - 1) (range 0 0) (set g.ranges k (range r.start (record_at g.ranges (k + 1)).end))) lower-is
+        ∙ ap (λ (r : Range). moved (k + 1) (g.count - 1) (range 0 0) (set g.ranges k (range j.lower.start r.end))) upper-is
+        ∙ ap (λ (t : List Range). moved (k + 1) (g.count - 1) (range 0 0) (set t k one)) (table-is ∙ ap (filled RANGES) j.was)
+        ∙ ap (moved (k + 1) (g.count - 1) (range 0 0)) (rw (← j.place) (changes j.before (j.upper ∷ j.after) j.lower one RANGES) ∙ ap (filled RANGES) (sym both))
+        ∙ rw (← l, ← m) (gone (j.before ++ one ∷ []) j.after j.upper 63 (omega arith))
+        ∙ ap (filled RANGES) low
+        ∙ sym (ap (filled RANGES) j.is)
 
-    joined-ends : moved k (g.count - 1) 0 g.ends ≡ ends rs
-    joined-ends =
-        let m : length (j.before ++ j.upper ∷ j.after) ≡ g.count - 1 = length-append j.before (j.upper ∷ j.after) ∙ (let c = count-joined in let e = ap length j.is ∙ length-append j.before (range j.lower.start j.upper.end ∷ j.after) in omega arith) in
-        let h = v.few in
-        ap (moved k (g.count - 1) 0) (ends-are ∙ ap ends j.was)
-        ∙ rw (← j.place, ← m) (gone ending j.before (j.upper ∷ j.after) j.lower 63 (omega arith))
-        ∙ ap (filled RANGES) (stays ending j.before j.after j.upper (range j.lower.start j.upper.end) refl)
-        ∙ sym (ap ends j.is)
-
-    pub joined_is : (s e : List ℕ) → s ≡ moved (k + 1) (g.count - 1) 0 g.starts → e ≡ moved k (g.count - 1) 0 g.ends
-        → record { count = g.count - 1; dropped = g.dropped; starts = s; ends = e } ≡ gatherer rs g.dropped
-    joined_is s e p q =
+    pub joined_is : (t : List Range) → t ≡ moved (k + 1) (g.count - 1) (range 0 0) (set g.ranges k (range (record_at g.ranges k).start (record_at g.ranges (k + 1)).end))
+        → record { count = g.count - 1; dropped = g.dropped; ranges = t } ≡ gatherer rs g.dropped
+    joined_is t p =
         let c = count-joined in
-        gatherer-is (record { count = g.count - 1; dropped = g.dropped; starts = s; ends = e }) rs g.dropped (omega arith) refl (p ∙ joined-starts) (q ∙ joined-ends)
+        gatherer-is (record { count = g.count - 1; dropped = g.dropped; ranges = t }) rs g.dropped (omega arith) refl (p ∙ joined-table)
+
+    pub joined-valid : {s : PendingAcks} → s ≡ gatherer rs g.dropped → Valid s
+    joined-valid e = rw e (gatherer-valid rs g.dropped few-joined (rw j.is (rising-one 0 j.before j.after j.lower j.upper (rw j.was at v.rises))))
+
+  -- where there are two to join
+  pub neighbours : {k : ℕ} → k + 1 < g.count → (qs : List Range) × Joined (ranges_of g) qs k
+  neighbours {k} h =
+      let rs = ranges_of g in
+      let c = count-is in (
+        take k rs ++ range (record_at rs k).start (record_at rs (k + 1)).end ∷ drop (k + 1 + 1) rs,
+        record {
+          before = take k rs;
+          lower = record_at rs k;
+          upper = record_at rs (k + 1);
+          after = drop (k + 1 + 1) rs;
+          was =
+              sym (take-append-drop k rs)
+              ∙ ap (λ (l : List Range). take k rs ++ l) (drop-record rs k (omega arith) ∙ ap (λ (l : List Range). record_at rs k ∷ l) (drop-record rs (k + 1) (omega arith)));
+          is = refl;
+          place = length-take-le k rs (omega arith);
+        },
+      )
 
   -- ---- one range more
 
@@ -212,20 +228,17 @@ module _ (g : PendingAcks) (v : Valid g) where
     parts-count : length (o.before ++ o.after) ≡ g.count
     parts-count = sym (ap length o.was) ∙ count-is
 
-    module _ (h : g.count < RANGES) where
-      opened-table : (f : Range → ℕ) (t : List ℕ) → t ≡ filled RANGES (map f (ranges_of g)) → moved g.count k (f (range x (x + 1))) t ≡ filled RANGES (map f rs)
-      opened-table f t e =
-          let c = parts-count in
-          ap (moved g.count k (f (range x (x + 1)))) (e ∙ ap (λ (l : List Range). filled RANGES (map f l)) o.was)
-          ∙ rw (← o.place, ← c) (come f o.before o.after (range x (x + 1)) 63 (omega arith))
-          ∙ sym (ap (λ (l : List Range). filled RANGES (map f l)) o.is)
-
-      pub opened-is : (s e : List ℕ) → s ≡ moved g.count k x g.starts → e ≡ moved g.count k (x + 1) g.ends
-          → record { count = g.count + 1; dropped = g.dropped; starts = s; ends = e } ≡ gathered rs g.dropped
-      opened-is s e p q =
-          let c = count-opened in
-          gatherer-is (record { count = g.count + 1; dropped = g.dropped; starts = s; ends = e }) rs g.dropped (sym c) refl (p ∙ opened-table starting g.starts starts-are) (q ∙ opened-table ending g.ends ends-are)
-          ∙ sym (kept-all rs g.dropped (omega arith))
+    pub opened-is : g.count < RANGES → (t : List Range) → t ≡ moved g.count k (range x (x + 1)) g.ranges
+        → record { count = g.count + 1; dropped = g.dropped; ranges = t } ≡ gathered rs g.dropped
+    opened-is h t p =
+        let c = count-opened in
+        let d = parts-count in
+        gatherer-is (record { count = g.count + 1; dropped = g.dropped; ranges = t }) rs g.dropped (sym c) refl
+        (p
+        ∙ ap (moved g.count k (range x (x + 1))) (table-is ∙ ap (filled RANGES) o.was)
+        ∙ rw (← o.place, ← d) (come o.before o.after (range x (x + 1)) 63 (omega arith))
+        ∙ sym (ap (filled RANGES) o.is))
+        ∙ sym (kept-all rs g.dropped (omega arith))
 
     module _ (h : RANGES ≤ g.count) where
       full : g.count ≡ RANGES
@@ -241,9 +254,9 @@ module _ (g : PendingAcks) (v : Valid g) where
           rw (e, lt-ltb RANGES (length rs) l)
 
       -- the newcomer is the lowest
-      pub opened-none : k ≡ 0 → record { count = g.count; dropped = true; starts = g.starts; ends = g.ends } ≡ gathered rs g.dropped
+      pub opened-none : k ≡ 0 → record { count = g.count; dropped = true; ranges = g.ranges } ≡ gathered rs g.dropped
       opened-none z =
-          gatherer-is (record { count = g.count; dropped = true; starts = g.starts; ends = g.ends }) (ranges_of g) true (sym count-is) refl starts-are ends-are
+          gatherer-is (record { count = g.count; dropped = true; ranges = g.ranges }) (ranges_of g) true (sym count-is) refl table-is
           ∙ ap (λ (l : List Range). gatherer l true) (sym (lowest o.before (o.place ∙ z) o.was o.is))
           ∙ sym one-dropped
         where
@@ -252,23 +265,22 @@ module _ (g : PendingAcks) (v : Valid g) where
           lowest (b ∷ bs) l was is = absurd (omega arith)
 
       -- another is
-      turned-table : (f : Range → ℕ) (t : List ℕ) → t ≡ filled RANGES (map f (ranges_of g)) → 0 < k → moved 0 (k - 1) (f (range x (x + 1))) t ≡ filled RANGES (map f (drop 1 rs))
-      turned-table f t e s = by_front o.before o.place o.was o.is
+      turned-table : 0 < k → moved 0 (k - 1) (range x (x + 1)) g.ranges ≡ filled RANGES (drop 1 rs)
+      turned-table s = by_front o.before o.place o.was o.is
         where
-          by_front : (bs : List Range) → length bs ≡ k → ranges_of g ≡ bs ++ o.after → rs ≡ bs ++ range x (x + 1) ∷ o.after → moved 0 (k - 1) (f (range x (x + 1))) t ≡ filled RANGES (map f (drop 1 rs))
+          by_front : (bs : List Range) → length bs ≡ k → ranges_of g ≡ bs ++ o.after → rs ≡ bs ++ range x (x + 1) ∷ o.after → moved 0 (k - 1) (range x (x + 1)) g.ranges ≡ filled RANGES (drop 1 rs)
           by_front [] l was is = absurd (omega arith)
           by_front (b ∷ bs) l was is =
               let n : length bs ≡ k - 1 = omega arith in
               let p = place_opened in
               let u = full in
-              ap (moved 0 (k - 1) (f (range x (x + 1)))) (e ∙ ap (λ (l : List Range). filled RANGES (map f l)) was)
-              ∙ rw (← n) (turned f b bs o.after (range x (x + 1)) 63 (omega arith))
-              ∙ sym (ap (λ (l : List Range). filled RANGES (map f (drop 1 l))) is)
+              ap (moved 0 (k - 1) (range x (x + 1))) (table-is ∙ ap (filled RANGES) was)
+              ∙ rw (← n) (turned b bs o.after (range x (x + 1)) 63 (omega arith))
+              ∙ sym (ap (λ (l : List Range). filled RANGES (drop 1 l)) is)
 
-      pub opened-full : (s e : List ℕ) → 0 < k → s ≡ moved 0 (k - 1) x g.starts → e ≡ moved 0 (k - 1) (x + 1) g.ends
-          → record { count = g.count; dropped = true; starts = s; ends = e } ≡ gathered rs g.dropped
-      opened-full s e some p q =
+      pub opened-full : (t : List Range) → 0 < k → t ≡ moved 0 (k - 1) (range x (x + 1)) g.ranges → record { count = g.count; dropped = true; ranges = t } ≡ gathered rs g.dropped
+      opened-full t some p =
           let c = count-opened in
           let d = length-drop 1 rs in
-          gatherer-is (record { count = g.count; dropped = true; starts = s; ends = e }) (drop 1 rs) true (omega arith) refl (p ∙ turned-table starting g.starts starts-are some) (q ∙ turned-table ending g.ends ends-are some)
+          gatherer-is (record { count = g.count; dropped = true; ranges = t }) (drop 1 rs) true (omega arith) refl (p ∙ turned-table some)
           ∙ sym one-dropped

@@ -4,21 +4,17 @@
 --
 -- What a reader would check these definitions by: after adding x exactly x is named besides (`only-added`, `still-named`, proofs/Ranges.antt), and ranges that rise
 -- and name the same are the same ranges (`canonical`, proofs/Canonical.antt). Assumes nothing.
-use Rattle.std.specs.Prelude.{ℕ, zero, suc, ◌+◌, ◌-◌, ◌≤◌, ◌<◌, ◌≡◌, Bool, true, false, List, [], ◌∷◌, map, length, get_or, drop, ltb, leb, eqb}
+use Rattle.std.specs.Prelude.{ℕ, zero, suc, ◌+◌, ◌-◌, ◌≤◌, ◌<◌, ◌≡◌, Bool, true, false, List, [], ◌∷◌, length, take, drop, ltb, leb, eqb, Result, Ok, Err}
 use Rattle.words.specs.Sizes.{LIMIT}
 use Rattle.words.specs.Choice.{pick}
 use Rattle.words.specs.Refusal.{number_of}
+use Rattle.words.specs.declared.Refusal.{Refusal}
+use Rattle.words.specs.declared.After.{After}
 use Rattle.packet_ack.specs.Ack.{RANGES}
 use Rattle.packet_ack.specs.declared.Range.{Range}
 use Rattle.packet_ack.specs.Write.{ack_bytes, put_ack}
 use Rattle.octets.specs.Writer.{put_of, left}
-use Rattle.octets.specs.declared.Put.{Put}
 use Rattle.pending_acks.specs.declared.PendingAcks.{PendingAcks}
-use Rattle.pending_acks.specs.declared.Add.{Add}
-use Rattle.pending_acks.specs.declared.Add.TheVariants as add
-use Rattle.pending_acks.specs.declared.Added.{Added}
-use Rattle.pending_acks.specs.declared.Asked.{Asked}
-use Rattle.pending_acks.specs.declared.Asked.TheVariants as asked
 
 -- ---- ranges
 
@@ -63,30 +59,19 @@ kept rs = drop (length rs - RANGES) rs
 
 -- ---- the gatherer
 
--- a table of m numbers: these, and blanks behind them
-unfoldable pub filled : ℕ → List ℕ → List ℕ
+-- a table of m records: these, and blanks behind them
+unfoldable pub filled : ℕ → List Range → List Range
 filled zero l = []
-filled (suc m) [] = 0 ∷ filled m []
+filled (suc m) [] = range 0 0 ∷ filled m []
 filled (suc m) (x ∷ l) = x ∷ filled m l
 
--- the gatherer of some ranges: their starts in one table, their ends in another; and whether any was ever dropped
+-- the gatherer of some ranges: they stand in its table; and whether any was ever dropped
 unfoldable pub gatherer : List Range → Bool → PendingAcks
-gatherer rs dropped =
-    record {
-      count = length rs;
-      dropped = dropped;
-      starts = filled RANGES (map (λ (r : Range). r.start) rs);
-      ends = filled RANGES (map (λ (r : Range). r.end) rs);
-    }
-
--- n ranges that stand in two tables
-unfoldable pub ranges_in_of : ℕ → List ℕ → List ℕ → List Range
-ranges_in_of zero starts ends = []
-ranges_in_of (suc n) starts ends = range (get_or starts 0 0) (get_or ends 0 0) ∷ ranges_in_of n (drop 1 starts) (drop 1 ends)
+gatherer rs dropped = record { count = length rs; dropped = dropped; ranges = filled RANGES rs }
 
 -- the ranges of a gatherer
 abbrev pub ranges_of : PendingAcks → List Range
-ranges_of g = ranges_in_of g.count g.starts g.ends
+ranges_of g = take g.count g.ranges
 
 -- what is always true of a gatherer: up to 64 ranges, rising, and nothing else in it
 pub record Valid (g : PendingAcks) : Type 0 where
@@ -109,9 +94,13 @@ unfoldable pub added : PendingAcks → ℕ → PendingAcks
 added g x = pick (leb LIMIT x) g (gathered (inserted x (ranges_of g)) g.dropped)
 
 -- the refusal's number, 0 for none
-abbrev pub add_number : Add → ℕ
-add_number add.Done = 0
-add_number (add.Refused e) = number_of e
+abbrev pub add_number : Result (Unit {0}) Refusal → ℕ
+add_number (Ok done) = 0
+add_number (Err e) = number_of e
+
+-- what a call answers, and the gatherer after it
+abbrev pub Added : Type 0
+Added = After (Result (Unit {0}) Refusal) PendingAcks
 
 pub record AddGives (g : PendingAcks) (x : ℕ) (r : Added) : Type 0 where
   pub answer : add_number r.answer ≡ sequence_refusal x
@@ -126,16 +115,16 @@ pub data Reply : Type 0 where
   no : Reply
   refused : ℕ → Reply
 
-abbrev pub reply_of : Asked → Reply
-reply_of asked.Named = yes
-reply_of asked.Unnamed = no
-reply_of (asked.Refused e) = refused (number_of e)
+abbrev pub reply_of : Result Bool Refusal → Reply
+reply_of (Ok true) = yes
+reply_of (Ok false) = no
+reply_of (Err e) = refused (number_of e)
 
 unfoldable pub reply : List Range → ℕ → Reply
 reply rs x = pick (leb LIMIT x) (refused 13) (pick (named rs x) yes no)
 
 -- ---- the packet, at a place of the lent bytes: what document 01's writer says of these ranges (13, 5, 1)
 
-pub record PacketGives (g : PendingAcks) (seq at : ℕ) (out out' : List ℕ) (r : Put) : Type 0 where
+pub record PacketGives (g : PendingAcks) (seq at : ℕ) (out out' : List ℕ) (r : Result ℕ Refusal) : Type 0 where
   pub answer : put_of r ≡ put_ack seq (ranges_of g) g.count at (length out)
   pub bytes : out' ≡ left (put_of r) at (ack_bytes seq (ranges_of g)) out

@@ -1,8 +1,9 @@
 -- What the private functions answer. Assumes nothing.
-use Rattle.std.specs.Prelude.{ℕ, ◌+◌, ◌-◌, ◌≤◌, ◌<◌, ◌≡◌, Bool, false, List, ◌∷◌, ◌++◌, length, get_or, take, drop, ltb, eqb}
+use Rattle.std.specs.Prelude.{ℕ, ◌+◌, ◌-◌, ◌≤◌, ◌<◌, ◌≡◌, Bool, false, List, ◌∷◌, ◌++◌, length, take, drop, ltb, eqb}
 use Rattle.words.specs.Choice.{pick}
 use Rattle.words.specs.Lists.{without}
 use Rattle.packet_ack.specs.declared.Range.{Range}
+use Rattle.packet_ack.specs.Write.{record_at}
 use Rattle.pending_acks.specs.Gather.{range, inserted}
 use Rattle.pending_acks.specs.declared.Spot.{Spot}
 use Rattle.pending_acks.specs.declared.Spot.TheVariants.{Named, Above, Below, Joins, Opens}
@@ -14,27 +15,20 @@ unfoldable pub put_in : {A : Type 0} → ℕ → A → List A → List A
 put_in k v l = take k l ++ v ∷ drop k l
 
 -- the entry at `from` taken out, and v put in at `to`
-abbrev pub moved : ℕ → ℕ → ℕ → List ℕ → List ℕ
+abbrev pub moved : ℕ → ℕ → Range → List Range → List Range
 moved from to v table = put_in to v (without from table)
 
--- ---- halving
+-- ---- where ranges start
 
--- of the n ranges from `from` on, r is the last that starts at or below x, or else the first
-pub record Sought (starts : List ℕ) (from n x r : ℕ) : Type 0 where
-  pub first : from ≤ r
-  pub last : r < from + n
-  pub low : from < r → get_or starts r 0 ≤ x
-  pub high : r + 1 < from + n → x < get_or starts (r + 1) 0
+-- k of the ranges start at or below x: those before the k-th, and no other
+pub record Placed (rs : List Range) (x k : ℕ) : Type 0 where
+  pub within : k ≤ length rs
+  pub low : 0 < k → (record_at rs (k - 1)).start ≤ x
+  pub high : k < length rs → x < (record_at rs k).start
 
--- k of n ranges start at or below x
-pub record Placed (starts : List ℕ) (n x k : ℕ) : Type 0 where
-  pub within : k ≤ n
-  pub low : 0 < k → get_or starts (k - 1) 0 ≤ x
-  pub high : k < n → x < get_or starts k 0
-
--- whether the k-th of n ranges starts at x
-abbrev pub starts_at_of : List ℕ → ℕ → ℕ → ℕ → Bool
-starts_at_of starts n k x = pick (ltb k n) (eqb (get_or starts k 0) x) false
+-- whether there is a k-th range, and it starts at x
+abbrev pub starts_at_of : List Range → ℕ → ℕ → Bool
+starts_at_of rs k x = pick (ltb k (length rs)) (eqb (record_at rs k).start x) false
 
 -- ---- where a sequence goes: what it makes of the ranges, at the place of a range
 

@@ -1,50 +1,46 @@
 #![tactic(auto)]
 // Gathering acks: the sequences of packets that arrived, kept as ranges until a packet names them to
 // the other side. At most 64 ranges are kept, rising, with at least one number missing between two.
-//
-// A range's start stands in one table and its end in another, the lowest range first.
-ghost use Rattle.std.specs.Prelude.{◌≡◌, false, List, [], ◌+◌, ◌≤◌, ◌<◌, ltb, length, take};
-ghost use Rattle.words.specs.Choice.{pick};
+ghost use Rattle.std.specs.Prelude.{◌≡◌, false, List, [], ◌+◌, ◌≤◌, ◌<◌, length};
 ghost use Rattle.words.specs.Sizes.{LIMIT};
-ghost use Rattle.packet_ack.specs.Ack.{RANGES};
 ghost use Rattle.packet_ack.specs.declared.Range.{Range};
-ghost use Rattle.pending_acks.specs.Gather.{range, Valid, Rising, ranges_in_of, ranges_of, gatherer, gathered, AddGives, reply, reply_of, PacketGives};
-ghost use Rattle.pending_acks.specs.Steps.{moved, Sought, Placed, starts_at_of, Joined, Opened, SpotFor};
+ghost use Rattle.pending_acks.specs.Gather.{range, Valid, Rising, ranges_of, gatherer, inserted, gathered, AddGives, reply, reply_of, PacketGives};
+ghost use Rattle.pending_acks.specs.Steps.{moved, Placed, starts_at_of, Joined, Opened, SpotFor};
 
-use octets::Put;
-use packet::Packet;
 use packet_ack::{Ack, RANGES, Range};
-use words::{LIMIT, Refusal, Sequence};
+use std::marker::Model;
+use words::{After, LIMIT, Refusal, Sequence};
 
-// The ranges, and whether one was ever dropped.
+// What stands in the table behind the ranges.
+const BLANK: Range = Range { start: 0, end: 0 };
+
+// The ranges, the lowest first, how many they are (a count beside a table, since all memory is fixed), and
+// whether one was ever dropped.
 #[derive(Clone, Copy)]
 pub struct PendingAcks {
     count: usize,
     dropped: bool,
-    starts: [u64; RANGES],
-    ends: [u64; RANGES],
+    ranges: [Range; RANGES],
 }
 
-// Whether a sequence was added.
-#[derive(Clone, Copy)]
-pub enum Add {
-    Done,
-    Refused(Refusal),
+// A contract sees its fields, of which `Valid` is always true.
+impl Model for PendingAcks {
+    ghost use Rattle.pending_acks.specs.State.{State};
+
+    ghost Value = { State };
+
+    ghost use Rattle.pending_acks.specs.Gather.{Valid};
+    ghost use Rattle.pending_acks.specs.Fields.{state_of, fields_of};
+
+    ghost view = { state_of };
+
+    ghost invariant = { λ a. Valid (state_of a) };
+
+    ghost inverse = { fields_of };
 }
 
-#[derive(Clone, Copy)]
-pub struct Added {
-    pub answer: Add,
-    pub state: PendingAcks,
-}
-
-// Whether a sequence is named.
-#[derive(Clone, Copy)]
-pub enum Asked {
-    Named,
-    Unnamed,
-    Refused(Refusal),
-}
+// Whether a sequence was added, and the ranges then.
+pub type Added = After<Result<(), Refusal>, PendingAcks>;
 
 // Where a sequence goes.
 #[derive(Clone, Copy)]
@@ -69,82 +65,49 @@ impl PendingAcks {
         PendingAcks {
             count: 0,
             dropped: false,
-            starts: [0; RANGES],
-            ends: [0; RANGES],
+            ranges: [BLANK; RANGES],
         }
     }
 
     // Takes up the sequence of a packet that arrived.
     pub fn add_pending_ack(mut self, sequence: Sequence) -> Added
-        requires { Valid self }
         ensures { AddGives self sequence.0 result }
     {
         let x = sequence.0;
+        // Read before the test: what is handed back is promised to be valid on a refusal too.
+        let count = self.count;
         if LIMIT <= x {
-            return Added {
-                answer: Add::Refused(Refusal::BadNumber),
+            return After {
+                answer: Err(Refusal::BadNumber),
                 state: self,
             };
         }
-        let count = self.count;
-        let spot = find_spot(&self.starts, &self.ends, count, x);
-        let answer = Add::Done;
-        match spot {
-            Spot::Named => Added {
-                answer,
-                state: self,
-            },
-            Spot::Above(k) => {
-                self.ends[k] = x + 1;
-                Added {
-                    answer,
-                    state: self,
-                }
-            }
-            Spot::Below(k) => {
-                self.starts[k] = x;
-                Added {
-                    answer,
-                    state: self,
-                }
-            }
-            Spot::Joins(k) => Added {
-                answer,
-                state: self.join(k),
-            },
-            Spot::Opens(k) => Added {
-                answer,
-                state: self.open(k, x),
-            },
+        let spot = find_spot(&self.ranges[..count], x);
+        self.take_up(spot, x);
+        After {
+            answer: Ok(()),
+            state: self,
         }
     }
 
-    // Whether a sequence is named: the ranges are halved until one is left.
-    pub fn is_named(self, sequence: Sequence) -> Asked
-        requires { Valid self }
+    // Whether a sequence is named: the last range that starts at or below it tells.
+    pub fn is_named(self, sequence: Sequence) -> Result<bool, Refusal>
         ensures { reply_of result ≡ reply (ranges_of self) sequence.0 }
     {
         let x = sequence.0;
         if LIMIT <= x {
-            return Asked::Refused(Refusal::BadNumber);
+            return Err(Refusal::BadNumber);
         }
         let count = self.count;
-        if count == 0 {
-            return Asked::Unnamed;
+        let k = find_place(&self.ranges[..count], x);
+        if k == 0 {
+            return Ok(false);
         }
-        let k = seek(&self.starts, 0, count, x);
-        if x < self.starts[k] {
-            return Asked::Unnamed;
-        }
-        if x < self.ends[k] {
-            return Asked::Named;
-        }
-        Asked::Unnamed
+        Ok(x < self.ranges[k - 1].end)
     }
 
     // How many ranges there are.
     pub fn count(self) -> usize
-        requires { Valid self }
         ensures { result ≡ length (ranges_of self) }
     {
         self.count
@@ -158,109 +121,91 @@ impl PendingAcks {
     }
 
     // Writes the packet that names all ranges to a place, or refuses and changes nothing.
-    pub fn to_bytes(self, out: &mut [u8], at: usize, sequence: Sequence) -> Put
-        requires { Valid self }
+    pub fn to_bytes(self, out: &mut [u8], at: usize, sequence: Sequence) -> Result<usize, Refusal>
         ensures { PacketGives self sequence.0 at out.old out.new result }
     {
         let count = self.count;
-        let table = ranges_in(&self.starts, &self.ends, count);
-        let packet = Packet::Ack(Ack { sequence, count });
-        let from = within(at, out.len());
-        match packet::encode(&mut out[from..], packet, &[], table, count, &[]) {
-            Put::Refused(e) => Put::Refused(e),
-            Put::To(n) => Put::To(at + n),
+        let packet = Ack { sequence, count };
+        packet_ack::put_ack(out, at, packet, &self.ranges[..count])
+    }
+
+    // Names a sequence too, at the spot where it goes.
+    fn take_up(&mut self, spot: Spot, x: u64)
+        requires { (x < LIMIT) × SpotFor (ranges_of self.old) x spot }
+        ensures { self.new ≡ gathered (inserted x (ranges_of self.old)) self.old.dropped }
+    {
+        // Opened before the arms: what is always true of the ranges bounds the index.
+        let _ = &self.ranges;
+        match spot {
+            Spot::Named => {}
+            Spot::Above(k) => self.ranges[k].end = x + 1,
+            Spot::Below(k) => self.ranges[k].start = x,
+            Spot::Joins(k) => self.join(k),
+            Spot::Opens(k) => self.open(k, x),
         }
     }
 
     // The k-th range and the next as one.
-    fn join(mut self, k: usize) -> PendingAcks
-        requires { Valid self × (k + 1 < self.count) }
-        ensures { (rs : List Range) → Joined (ranges_of self) rs k → result ≡ gatherer rs self.dropped }
+    fn join(&mut self, k: usize)
+        requires { k + 1 < self.old.count }
+        ensures { (rs : List Range) → Joined (ranges_of self.old) rs k → self.new ≡ gatherer rs self.old.dropped }
     {
         let last = self.count - 1;
-        move_down(&mut self.starts, k + 1, last, 0);
-        move_down(&mut self.ends, k, last, 0);
+        self.ranges[k].end = self.ranges[k + 1].end;
+        move_down(&mut self.ranges, k + 1, last, BLANK);
         self.count = last;
-        self
     }
 
     // One range more, of a sequence alone, above k others. A 65th drops the lowest, which may be the newcomer.
-    fn open(mut self, k: usize, x: u64) -> PendingAcks
-        requires { Valid self × (k ≤ self.count) × (x < LIMIT) }
-        ensures { (rs : List Range) → Opened (ranges_of self) rs k (range x (x + 1)) → result ≡ gathered rs self.dropped }
+    fn open(&mut self, k: usize, x: u64)
+        requires { (x < LIMIT) × Opened (ranges_of self.old) (inserted x (ranges_of self.old)) k (range x (x + 1)) }
+        ensures { self.new ≡ gathered (inserted x (ranges_of self.old)) self.old.dropped }
     {
+        let newcomer = Range {
+            start: x,
+            end: x + 1,
+        };
         let count = self.count;
         if count < RANGES {
-            move_up(&mut self.starts, count, k, x);
-            move_up(&mut self.ends, count, k, x + 1);
+            move_up(&mut self.ranges, count, k, newcomer);
             self.count = count + 1;
-            return self;
+            return;
         }
         self.dropped = true;
-        if k == 0 {
-            return self;
+        if 0 < k {
+            move_down(&mut self.ranges, 0, k - 1, newcomer);
         }
-        move_down(&mut self.starts, 0, k - 1, x);
-        move_down(&mut self.ends, 0, k - 1, x + 1);
-        self
     }
 }
 
-// The last of n ranges, from a place on, that starts at or below a sequence; or the first. The span is
-// halved until one range is left.
-fn seek(starts: &[u64], from: usize, n: usize, x: u64) -> usize
-    requires { (0 < n) × (from + n ≤ length starts.now) }
-    ensures { Sought starts.now from n x result }
+// How many ranges start at or below a sequence. One that is not below the highest range's start needs no search.
+fn find_place(ranges: &[Range], x: u64) -> usize
+    requires { Rising 0 ranges.now }
+    ensures { Placed ranges.now x result }
 {
-    if n <= 1 {
-        return from;
-    }
-    let half = n / 2;
-    if x < starts[from + half] {
-        return seek(starts, from, half, x);
-    }
-    seek(starts, from + half, n - half, x)
-}
-
-// How many of n ranges start at or below a sequence. One that is not below the highest range's start needs no search.
-fn find_place(starts: &[u64], n: usize, x: u64) -> usize
-    requires { n ≤ length starts.now }
-    ensures { Placed starts.now n x result }
-{
-    if n == 0 {
-        return 0;
-    }
-    if starts[n - 1] <= x {
+    let n = ranges.len();
+    if n == 0 || ranges[n - 1].start <= x {
         return n;
     }
-    let k = seek(starts, 0, n, x);
-    if x < starts[k] {
-        return k;
-    }
-    k + 1
+    ranges.partition_point(|r| r.start <= x)
 }
 
-// Whether the k-th of n ranges starts at a sequence.
-fn starts_at(starts: &[u64], n: usize, k: usize, x: u64) -> bool
-    requires { n ≤ length starts.now }
-    ensures { result ≡ starts_at_of starts.now n k x }
+// Whether there is a k-th range, and it starts at a sequence.
+fn starts_at(ranges: &[Range], k: usize, x: u64) -> bool
+    ensures { result ≡ starts_at_of ranges.now k x }
 {
-    if k < n {
-        return starts[k] == x;
-    }
-    false
+    k < ranges.len() && ranges[k].start == x
 }
 
-// Where a sequence goes among n ranges.
-fn find_spot<'a>(starts: &'a [u64], ends: &'a [u64], n: usize, x: u64) -> Spot
-    requires n_in_bounds { (n ≤ length starts.now) × (n ≤ length ends.now) × (x < LIMIT) }
-    requires rising { Rising 0 (ranges_in_of n starts.now ends.now) }
-    ensures { SpotFor (ranges_in_of n starts.now ends.now) x result }
+// Where a sequence goes.
+fn find_spot(ranges: &[Range], x: u64) -> Spot
+    requires { Rising 0 ranges.now × (x < LIMIT) }
+    ensures { SpotFor ranges.now x result }
 {
-    let k = find_place(starts, n, x);
-    let touches = starts_at(starts, n, k, x + 1);
+    let k = find_place(ranges, x);
+    let touches = starts_at(ranges, k, x + 1);
     if 0 < k {
-        let end = ends[k - 1];
+        let end = ranges[k - 1].end;
         if x < end {
             return Spot::Named;
         }
@@ -277,57 +222,20 @@ fn find_spot<'a>(starts: &'a [u64], ends: &'a [u64], n: usize, x: u64) -> Spot
     Spot::Opens(k)
 }
 
-// The entries after `from`, as far as `to`, move down by one, and a value takes the place at `to`.
-fn move_down(table: &mut [u64; RANGES], from: usize, to: usize, v: u64)
-    requires { (from ≤ to) × (to < RANGES) × (length table.old ≡ RANGES) }
-    ensures { table.new ≡ moved from to v table.old }
+// The ranges after `from`, as far as `to`, move down by one, and another takes the place at `to`.
+fn move_down(table: &mut [Range], from: usize, to: usize, r: Range)
+    requires { (from ≤ to) × (to < length table.old) }
+    ensures { table.new ≡ moved from to r table.old }
 {
-    let mut i = from;
-    while i < to {
-        table[i] = table[i + 1];
-        i += 1;
-    }
-    table[to] = v;
+    table.copy_within(from + 1..to + 1, from);
+    table[to] = r;
 }
 
-// The entries before `from`, as far as `to`, move up by one, and a value takes the place at `to`.
-fn move_up(table: &mut [u64; RANGES], from: usize, to: usize, v: u64)
-    requires { (to ≤ from) × (from < RANGES) × (length table.old ≡ RANGES) }
-    ensures { table.new ≡ moved from to v table.old }
+// The ranges before `from`, as far as `to`, move up by one, and another takes the place at `to`.
+fn move_up(table: &mut [Range], from: usize, to: usize, r: Range)
+    requires { (to ≤ from) × (from < length table.old) }
+    ensures { table.new ≡ moved from to r table.old }
 {
-    let mut i = from;
-    while to < i {
-        table[i] = table[i - 1];
-        i -= 1;
-    }
-    table[to] = v;
-}
-
-// The first n ranges as records, for the writer of packets.
-fn ranges_in<'a>(starts: &'a [u64], ends: &'a [u64], n: usize) -> [Range; RANGES]
-    requires { (n ≤ RANGES) × (n ≤ length starts.now) × (n ≤ length ends.now) }
-    ensures { take n result ≡ ranges_in_of n starts.now ends.now }
-{
-    let blank = Range { start: 0, end: 0 };
-    let mut table = [blank; RANGES];
-    let mut i = 0;
-    while i < n {
-        let r = Range {
-            start: starts[i],
-            end: ends[i],
-        };
-        table[i] = r;
-        i += 1;
-    }
-    table
-}
-
-// A place, or the end of so many bytes where it lies past them.
-fn within(at: usize, n: usize) -> usize
-    ensures { result ≡ pick (ltb at n) at n }
-{
-    if at < n {
-        return at;
-    }
-    n
+    table.copy_within(to..from, to + 1);
+    table[to] = r;
 }

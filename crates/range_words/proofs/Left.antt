@@ -1,13 +1,16 @@
 -- What is left to do, from a place on, gives what the whole gives. Assumes nothing.
-use Prim.Native.Nat.{ℕ, suc, ◌+◌, ◌*◌, ◌-◌, ◌/◌, ◌≤◌, ◌<◌}
+use Prim.Native.Nat.{ℕ, suc, ◌+◌, ◌*◌, ◌-◌, ◌/◌, ◌≤◌, ◌<◌, min}
 use mathlib.Core.Path.{◌≡◌, refl, sym, ap, ◌∙◌}
 use mathlib.Core.List.{List, [], ◌∷◌}
 use native.Mathlib.Omega.{arith}
 use native.Mathlib.Nat.{sub-zero}
 use native.Mathlib.Numerals.{add-one}
+use borrow.Author.Tests.{leb-true, leb-false}
+use lib.Dec.{leb}
 use lib.ListN.{length, get_or, set, take, drop, replicate, length-drop, drop_of_length-le}
 use lib.Seq.{drop-cons, take-nil}
 use Rattle.words.specs.Lists.{splice}
+use Rattle.words.proofs.Tables.{by-test}
 use Rattle.packet_ack.specs.Ack.{RANGES}
 use Rattle.packet_ack.specs.declared.Range.{Range}
 use Rattle.packet_ack.specs.Steps.{range}
@@ -41,15 +44,21 @@ module _ (ws : List ℕ) (i : ℕ) (t all : List Range) where
       let one : RANGES - i ≡ suc (RANGES - (i + 1)) = omega arith in
       sym (ap (λ (n : ℕ). splice i (take n (ranges_in_of (drop (2 * i) ws))) t) one ∙ ap (λ (v : List ℕ). splice i (take (suc (RANGES - (i + 1))) (ranges_in_of v)) t) (two h) ∙ rw (add-one i)) ∙ inv
 
-  pub filled-whole : RANGES ≤ i → filled ws i t ≡ all → t ≡ all
+  filled-whole : RANGES ≤ i → filled ws i t ≡ all → t ≡ all
   unfolding splice
   filled-whole h inv =
       let none : RANGES - i ≡ 0 = omega arith in
       ap (λ (n : ℕ). splice i (take n (ranges_in_of (drop (2 * i) ws))) t) (sym none) ∙ inv
 
-  pub filled-short : length ws / 2 ≤ i → filled ws i t ≡ all → t ≡ all
+  filled-short : length ws / 2 ≤ i → filled ws i t ≡ all → t ≡ all
   unfolding splice
   filled-short h inv = sym (rw (short (drop (2 * i) ws) (omega (arith, length-drop (2 * i) ws)), take-nil (RANGES - i))) ∙ inv
+
+  pub filled-all : min RANGES (length ws / 2) ≤ i → filled ws i t ≡ all → t ≡ all
+  filled-all h inv =
+      by-test (leb RANGES (length ws / 2))
+      (λ e. let l = leb-true _ _ e in filled-whole (omega arith) inv)
+      (λ e. let l = leb-false _ _ e in filled-short (omega arith) inv)
 
 -- ---- to words
 
@@ -69,12 +78,18 @@ module _ (t : List Range) (n i : ℕ) (ws all : List ℕ) where
       let next : 2 * (i + 1) ≡ suc (suc (2 * i)) = omega arith in
       sym (ap (λ (m : ℕ). splice (2 * i) (words_of (take m (drop i t))) ws) one ∙ ap (λ (v : List Range). splice (2 * i) (words_of (take (suc (n - (i + 1))) v)) ws) (drop-cons t i (range 0 0) l) ∙ rw (next, add-one i, add-one (2 * i))) ∙ inv
 
-  pub laid-whole : length t ≤ i → laid t n i ws ≡ all → ws ≡ all
+  laid-whole : length t ≤ i → laid t n i ws ≡ all → ws ≡ all
   unfolding splice words_of
   laid-whole h inv = sym (rw (drop_of_length-le t h, take-nil (n - i))) ∙ inv
 
-  pub laid-full : n ≤ i → laid t n i ws ≡ all → ws ≡ all
+  laid-full : n ≤ i → laid t n i ws ≡ all → ws ≡ all
   unfolding splice words_of
   laid-full h inv =
       let none : n - i ≡ 0 = omega arith in
       ap (λ (m : ℕ). splice (2 * i) (words_of (take m (drop i t))) ws) (sym none) ∙ inv
+
+  pub laid-all : length t ≤ RANGES → min RANGES n ≤ i → laid t n i ws ≡ all → ws ≡ all
+  laid-all k h inv =
+      by-test (leb RANGES n)
+      (λ e. let l = leb-true _ _ e in laid-whole (omega arith) inv)
+      (λ e. let l = leb-false _ _ e in laid-full (omega arith) inv)

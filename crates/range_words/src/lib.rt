@@ -12,19 +12,13 @@ pub const WORDS: usize = 2 * RANGES;
 pub fn from_words(words: &[u64]) -> [Range; RANGES]
     ensures { result ≡ table_of words.now }
 {
-    let blank = Range { start: 0, end: 0 };
-    let mut t = [blank; RANGES];
-    let mut i = 0;
-    while i < RANGES {
-        if words.len() / 2 <= i {
-            return t;
-        }
-        let r = Range {
+    let mut t = [Range { start: 0, end: 0 }; RANGES];
+    let n = RANGES.min(words.len() / 2);
+    for i in 0..n {
+        t[i] = Range {
             start: words[2 * i],
             end: words[2 * i + 1],
         };
-        t[i] = r;
-        i += 1;
     }
     t
 }
@@ -33,14 +27,10 @@ pub fn from_words(words: &[u64]) -> [Range; RANGES]
 pub fn to_words(words: &mut [u64], t: [Range; RANGES])
     ensures { words.new ≡ set_down t words.old }
 {
-    let mut i = 0;
-    while i < RANGES {
-        if words.len() / 2 <= i {
-            return;
-        }
+    let n = RANGES.min(words.len() / 2);
+    for i in 0..n {
         let r = t[i];
         words[2 * i] = r.start;
         words[2 * i + 1] = r.end;
-        i += 1;
     }
 }

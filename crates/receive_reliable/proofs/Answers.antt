@@ -1,27 +1,23 @@
 -- What the private functions answer, by the tests that led there. Assumes nothing.
+use Rattle.words.specs.declared.Refusal.{Refusal}
+use Rattle.std.specs.Prelude.{Result, Ok, Err, Option, Some, None}
 use Prim.Native.Nat.{ℕ, ◌+◌, ◌*◌, ◌≤◌, ◌<◌}
 use mathlib.Core.Path.{◌≡◌, refl, ap, ◌∙◌}
 use mathlib.Core.Bool.{Bool, true, false}
-use mathlib.Core.List.{List, []}
 use native.Mathlib.Omega.{arith}
 use borrow.Author.Tests.{lt-ltb, le-ltb, le-leb, lt-leb, eq-eqb, ne_eqb}
 use lib.Dec.{ltb, eqb}
-use lib.ListN.{take, drop}
 use Rattle.words.specs.Sizes.{SLICE_SIZE, LIMIT}
 use Rattle.words.specs.Choice.{pick}
 use Rattle.words.specs.Lists.{lowest_free_of}
 use Rattle.channel.specs.Settings.{stores_hold_of}
-use Rattle.receive_reliable.specs.Receive.{lane_of, in_lane_of, is_held, ignores, Outcome, taken, ignored, refused, arrival_of, judged, entry_refusal, message_refusal, MessageSpot, cell, nowhere, message_spot, SliceSpot, opened, fresh, nothing, count_refusal, fresh_refusal, constructor_at, Waiting, message, look_of, part_at}
-use Rattle.receive_reliable.specs.Steps.{entry_of, told, message_to, lane_for_of, slice_to, open_lane, fresh_lane, lane_spot}
+use Rattle.receive_reliable.specs.Receive.{lane_of, in_lane_of, is_held, ignores, Outcome, taken, ignored, refused, arrival_of, judged, entry_refusal, message_refusal, MessageSpot, cell, nowhere, message_spot, SliceSpot, opened, fresh, nothing, count_refusal, fresh_refusal, constructor_at}
+use Rattle.receive_reliable.specs.Steps.{entry_of, told, message_to, lane_for_of, open_of, slice_to, open_lane, fresh_lane, lane_spot}
 use Rattle.receive_reliable.specs.declared.ReceiveChannelReliable.{ReceiveChannelReliable}
-use Rattle.words.specs.declared.MessageId.{MessageId}
-use Rattle.receive_reliable.specs.declared.Store.{Store}
-use Rattle.receive_reliable.specs.declared.Store.TheVariants.{Small, Lanes}
+use Rattle.channel.specs.declared.Opened.{Opened}
 use Rattle.receive_reliable.specs.declared.Held.{Held}
 use Rattle.receive_reliable.specs.declared.Held.TheVariants as held
 use Rattle.receive_reliable.specs.declared.Arrival.{Arrival}
-use Rattle.receive_reliable.specs.declared.Look.{Look}
-use Rattle.receive_reliable.specs.declared.Look.TheVariants as look
 use Rattle.receive_reliable.specs.declared.Arrival.TheVariants as arrival
 use Rattle.words.proofs.Tables.{clash}
 
@@ -66,10 +62,10 @@ gone f m true true x = refl
 gone f m true false x = refl
 gone f m false b x = refl
 
-stops : {A : Type 0} (f : Outcome → A) (x m : A) (a : Arrival) → (a ≡ arrival.Taken → ⊥) → told f x (arrival_of a) ≡ told f m (arrival_of a)
-stops f x m arrival.Taken k = absurd (k refl)
-stops f x m arrival.Ignored k = refl
-stops f x m (arrival.Refused e) k = refl
+stops : {A : Type 0} (f : Outcome → A) (x m : A) (a : Result Arrival Refusal) → (a ≡ (Ok arrival.Taken) → ⊥) → told f x (arrival_of a) ≡ told f m (arrival_of a)
+stops f x m (Ok arrival.Taken) k = absurd (k refl)
+stops f x m (Ok arrival.Ignored) k = refl
+stops f x m (Err e) k = refl
 
 -- ---- a small message
 
@@ -81,7 +77,7 @@ module _ (s : ReceiveChannelReliable) (id n small lane : ℕ) where
   unfolding message_on entry_of message_spot
   message-goes = gone nowhere message_on (eqb (entry_refusal s id small lane) 0) (ignores s id) (entry_refusal s id small lane)
 
-  pub message-stops : (i : ℕ) (a : Arrival) → arrival_of a ≡ entry_of s id small lane → (a ≡ arrival.Taken → ⊥) → message_to i a ≡ message_spot s id n small lane
+  pub message-stops : (i : ℕ) (a : Result Arrival Refusal) → arrival_of a ≡ entry_of s id small lane → (a ≡ (Ok arrival.Taken) → ⊥) → message_to i a ≡ message_spot s id n small lane
   message-stops i a e k = stops nowhere (cell i) message_on a k ∙ ap (told nowhere message_on) e ∙ message-goes
 
   module _ (go : taken ≡ entry_of s id small lane) where
@@ -121,7 +117,7 @@ module _ (s : ReceiveChannelReliable) (id num small lane : ℕ) where
   unfolding slice_on entry_of lane_spot
   slice-goes = gone nothing slice_on (eqb (entry_refusal s id small lane) 0) (ignores s id) (entry_refusal s id small lane)
 
-  pub slice-stops : (x : SliceSpot) (a : Arrival) → arrival_of a ≡ entry_of s id small lane → (a ≡ arrival.Taken → ⊥) → slice_to x a ≡ lane_spot s id num small lane
+  pub slice-stops : (x : SliceSpot) (a : Result Arrival Refusal) → arrival_of a ≡ entry_of s id small lane → (a ≡ (Ok arrival.Taken) → ⊥) → slice_to x a ≡ lane_spot s id num small lane
   slice-stops x a e k = stops nothing x slice_on a k ∙ ap (told nothing slice_on) e ∙ slice-goes
 
   module _ (go : taken ≡ entry_of s id small lane) where
@@ -147,10 +143,16 @@ module _ (s : ReceiveChannelReliable) (id num small lane : ℕ) where
         is-fresh t e = e ∙ rw (ne_eqb _ _ some, le-ltb _ _ most, t) at slice-on
 
 -- a message that has no open lane goes to the free one
-pub not-open : (h : Held) (i : ℕ) → ((l n : ℕ) → h ≡ held.Open l n → ⊥) → lane_for_of h i ≡ fresh i
-not-open (held.At store j) i k = refl
-not-open (held.Open l n) i k = absurd (k l n refl)
-not-open held.Nothing i k = refl
+pub not-open : (h : Option Held) (i : ℕ) → open_of h ≡ None → lane_for_of h i ≡ fresh i
+not-open (Some (held.At store j)) i k = refl
+not-open (Some (held.Open o)) i k = clash (cc)
+not-open None i k = refl
+
+-- and one that has goes to that one
+pub is-open : (h : Option Held) (i : ℕ) (o : Opened) → open_of h ≡ Some o → (h ≡ Some (held.Open o)) × (lane_for_of h i ≡ opened o.lane)
+is-open (Some (held.At store j)) i o k = clash (cc)
+is-open (Some (held.Open p)) i o k = (cc, cc)
+is-open None i o k = clash (cc)
 
 -- a lane that is free
 
@@ -178,20 +180,3 @@ module _ (s : ReceiveChannelReliable) (l num n : ℕ) (e : n ≡ SLICE_SIZE * (c
   pub other-count : (n ≡ SLICE_SIZE * num → ⊥) → nothing (refused 8) ≡ open_lane s l num
   unfolding open_lane
   other-count h = rw (ne_eqb (constructor_at s l).num_slices num (λ k. h (e ∙ ap (λ (m : ℕ). SLICE_SIZE * m) k)))
-
--- ---- the part that a look shows
-
-module _ (w : Waiting) (small lane : List ℕ) where
-  pub no_part : (a : Look) → look_of a ≡ w → ((id : MessageId) (store : Store) (place len : ℕ) → a ≡ look.Message id store place len → ⊥) → [] ≡ part_at w small lane
-  no_part a e k = empty a k ∙ ap (λ (x : Waiting). part_at x small lane) e where
-    empty : (a : Look) → ((id : MessageId) (store : Store) (place len : ℕ) → a ≡ look.Message id store place len → ⊥) → [] ≡ part_at (look_of a) small lane
-    empty (look.Message id store place len) k = absurd (k id store place len refl)
-    empty look.Nothing k = refl
-    empty (look.Refused e) k = refl
-
-  module _ (id place len : ℕ) where
-    pub small-part : w ≡ message id Small place len → take len (drop place small) ≡ part_at w small lane
-    small-part e = rw e
-
-    pub lane-part : w ≡ message id Lanes place len → take len (drop place lane) ≡ part_at w small lane
-    lane-part e = rw e

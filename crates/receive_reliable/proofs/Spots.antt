@@ -1,4 +1,5 @@
 -- What a place, a held message and a look say of the state. Assumes nothing.
+use Rattle.std.specs.Prelude.{Option, Some, None}
 use Prim.Native.Nat.{ℕ, ◌+◌, ◌*◌, ◌≤◌, ◌<◌}
 use mathlib.Core.Path.{◌≡◌, refl, sym, ap, ◌∙◌}
 use mathlib.Core.Bool.{Bool, true, false, not}
@@ -17,10 +18,11 @@ use Rattle.channel.proofs.Held.{Here, found}
 use Rattle.slice_constructor.specs.Collect as c
 use Rattle.slice_constructor.proofs.Valid as cv
 use Rattle.receive_reliable.specs.Receive.{cell_of, lane_of, in_cell_of, in_lane_of, is_held, ignores, Outcome, ignored, refused, entry_refusal, message_refusal, cell, nowhere, message_spot, SliceSpot, opened, fresh, nothing, count_refusal, fresh_refusal, constructor_at, placed, open_spot, fresh_spot, slice_spot, Waiting, message, none-waiting, refusing, waiting, look_at, after_take, without_cell, without_lane, Valid}
-use Rattle.receive_reliable.specs.Steps.{held_by_of, held_in, shown_at, open_lane, fresh_lane, lane_spot, Fits}
+use Rattle.receive_reliable.specs.Steps.{held_by_of, held_in, whole_of, open_of, shown_at, open_lane, fresh_lane, lane_spot, Fits}
 use Rattle.receive_reliable.specs.declared.ReceiveChannelReliable.{ReceiveChannelReliable}
-use Rattle.receive_reliable.specs.declared.Store.{Store}
-use Rattle.receive_reliable.specs.declared.Store.TheVariants.{Small, Lanes}
+use Rattle.channel.specs.declared.Opened.{Opened}
+use Rattle.channel.specs.declared.Store.{Store}
+use Rattle.channel.specs.declared.Store.TheVariants.{Small, Lanes}
 use Rattle.receive_reliable.specs.declared.Held.{Held}
 use Rattle.receive_reliable.specs.declared.Held.TheVariants as held
 use Rattle.receive_reliable.proofs.Valid.{CellSpot, lane-used}
@@ -28,28 +30,30 @@ use Rattle.words.proofs.Tables.{clash}
 
 -- ---- a message that is held
 
-at_small : (a b w : Bool) (m l n i : ℕ) → pick a (held.At Small m) (pick b (pick w (held.At Lanes l) (held.Open l n)) held.Nothing) ≡ held.At Small i
+at_small : (a b w : Bool) (m l n i : ℕ) → pick a (Some (held.At Small m)) (pick b (pick w (Some (held.At Lanes l)) (Some (held.Open (record { lane = l; charge = n })))) None) ≡ Some (held.At Small i)
     → (a ≡ true) × (m ≡ i)
 at_small true b w m l n i e = (refl, cc)
 at_small false true true m l n i e = clash (cc)
 at_small false true false m l n i e = clash (cc)
 at_small false false w m l n i e = clash (cc)
 
-at-lanes : (a b w : Bool) (m l n i : ℕ) → pick a (held.At Small m) (pick b (pick w (held.At Lanes l) (held.Open l n)) held.Nothing) ≡ held.At Lanes i
+at-lanes : (a b w : Bool) (m l n i : ℕ) → pick a (Some (held.At Small m)) (pick b (pick w (Some (held.At Lanes l)) (Some (held.Open (record { lane = l; charge = n })))) None) ≡ Some (held.At Lanes i)
     → (a ≡ false) × (b ≡ true) × (w ≡ true) × (l ≡ i)
 at-lanes true b w m l n i e = clash (cc)
 at-lanes false true true m l n i e = (refl, refl, refl, cc)
 at-lanes false true false m l n i e = clash (cc)
 at-lanes false false w m l n i e = clash (cc)
 
-at_open : (a b w : Bool) (m l n i x : ℕ) → pick a (held.At Small m) (pick b (pick w (held.At Lanes l) (held.Open l n)) held.Nothing) ≡ held.Open i x
+at_open : (a b w : Bool) (m l n i x : ℕ) → pick a (Some (held.At Small m)) (pick b (pick w (Some (held.At Lanes l)) (Some (held.Open (record { lane = l; charge = n })))) None) ≡ Some (held.Open (record { lane = i; charge = x }))
     → (a ≡ false) × (b ≡ true) × (w ≡ false) × (l ≡ i) × (n ≡ x)
 at_open true b w m l n i x e = clash (cc)
 at_open false true true m l n i x e = clash (cc)
-at_open false true false m l n i x e = (refl, refl, refl, cc, cc)
+at_open false true false m l n i x e =
+    let o : ◌≡◌ {A = Opened} (record { lane = l; charge = n }) (record { lane = i; charge = x }) = cc in
+    (refl, refl, refl, ap (λ (p : Opened). p.lane) o, ap (λ (p : Opened). p.charge) o)
 at_open false false w m l n i x e = clash (cc)
 
-at-nothing : (a b w : Bool) (m l n : ℕ) → pick a (held.At Small m) (pick b (pick w (held.At Lanes l) (held.Open l n)) held.Nothing) ≡ held.Nothing
+at-nothing : (a b w : Bool) (m l n : ℕ) → pick a (Some (held.At Small m)) (pick b (pick w (Some (held.At Lanes l)) (Some (held.Open (record { lane = l; charge = n })))) None) ≡ None
     → (a ≡ false) × (b ≡ false)
 at-nothing true b w m l n e = clash (cc)
 at-nothing false true true m l n e = clash (cc)
@@ -62,39 +66,39 @@ neither true b e = clash (cc)
 neither false b e = (refl, e)
 
 module _ (s : ReceiveChannelReliable) (id : ℕ) where
-  in_small : (i : ℕ) → held_in s id ≡ held.At Small i → (in_cell_of s id ≡ true) × (cell_of s id ≡ i)
+  in_small : (i : ℕ) → held_in s id ≡ Some (held.At Small i) → (in_cell_of s id ≡ true) × (cell_of s id ≡ i)
   unfolding held_by_of
   in_small i e = at_small (in_cell_of s id) (in_lane_of s id) (get_or s.whole (lane_of s id) false) (cell_of s id) (lane_of s id) (get_or s.lane_lens (lane_of s id) 0) i e
 
-  in-lanes : (l : ℕ) → held_in s id ≡ held.At Lanes l → (in_cell_of s id ≡ false) × (in_lane_of s id ≡ true) × (get_or s.whole (lane_of s id) false ≡ true) × (lane_of s id ≡ l)
+  in-lanes : (l : ℕ) → held_in s id ≡ Some (held.At Lanes l) → (in_cell_of s id ≡ false) × (in_lane_of s id ≡ true) × (get_or s.whole (lane_of s id) false ≡ true) × (lane_of s id ≡ l)
   unfolding held_by_of
   in-lanes l e = at-lanes (in_cell_of s id) (in_lane_of s id) (get_or s.whole (lane_of s id) false) (cell_of s id) (lane_of s id) (get_or s.lane_lens (lane_of s id) 0) l e
 
-  pub in-open : (l n : ℕ) → held_in s id ≡ held.Open l n
+  pub in-open : (l n : ℕ) → held_in s id ≡ Some (held.Open (record { lane = l; charge = n }))
       → (in_cell_of s id ≡ false) × (in_lane_of s id ≡ true) × (get_or s.whole (lane_of s id) false ≡ false) × (lane_of s id ≡ l) × (get_or s.lane_lens (lane_of s id) 0 ≡ n)
   unfolding held_by_of
   in-open l n e = at_open (in_cell_of s id) (in_lane_of s id) (get_or s.whole (lane_of s id) false) (cell_of s id) (lane_of s id) (get_or s.lane_lens (lane_of s id) 0) l n e
 
-  in-neither : held_in s id ≡ held.Nothing → (in_cell_of s id ≡ false) × (in_lane_of s id ≡ false)
+  in-neither : held_in s id ≡ None → (in_cell_of s id ≡ false) × (in_lane_of s id ≡ false)
   unfolding held_by_of
   in-neither e = at-nothing (in_cell_of s id) (in_lane_of s id) (get_or s.whole (lane_of s id) false) (cell_of s id) (lane_of s id) (get_or s.lane_lens (lane_of s id) 0) e
 
   -- so a whole one is ignored
-  pub held-ignored : (store : Store) (i : ℕ) → held_in s id ≡ held.At store i → is_held s id ≡ true
+  pub held-ignored : (store : Store) (i : ℕ) → held_in s id ≡ Some (held.At store i) → is_held s id ≡ true
   held-ignored Small i e = rw (in_small i e).0
   held-ignored Lanes l e = let t = in-lanes l e in rw (t.0, t.1, t.2)
 
   -- and one that is open or not here is not
-  pub absent : (h : Held) → held_in s id ≡ h → ((store : Store) (i : ℕ) → h ≡ held.At store i → ⊥) → (in_cell_of s id ≡ false) × (is_held s id ≡ false)
-  absent (held.At store i) e k = absurd (k store i refl)
-  absent (held.Open l n) e k = let t = in-open l n e in (t.0, rw (t.0, t.1, t.2))
-  absent held.Nothing e k = let t = in-neither e in (t.0, rw (t.0, t.1))
+  pub absent : (h : Option Held) → held_in s id ≡ h → whole_of h ≡ None → (in_cell_of s id ≡ false) × (is_held s id ≡ false)
+  absent (Some (held.At store i)) e k = clash (cc)
+  absent (Some (held.Open o)) e k = let t = in-open o.lane o.charge e in (t.0, rw (t.0, t.1, t.2))
+  absent None e k = let t = in-neither e in (t.0, rw (t.0, t.1))
 
   -- one that is neither whole nor open has no lane
-  pub no-lane-here : is_held s id ≡ false → (h : Held) → held_in s id ≡ h → ((l n : ℕ) → h ≡ held.Open l n → ⊥) → in_lane_of s id ≡ false
-  no-lane-here f (held.At store i) e k = let t = held-ignored store i e in clash (cc)
-  no-lane-here f (held.Open l n) e k = absurd (k l n refl)
-  no-lane-here f held.Nothing e k = (in-neither e).1
+  pub no-lane-here : is_held s id ≡ false → (h : Option Held) → held_in s id ≡ h → open_of h ≡ None → in_lane_of s id ≡ false
+  no-lane-here f (Some (held.At store i)) e k = let t = held-ignored store i e in clash (cc)
+  no-lane-here f (Some (held.Open o)) e k = clash (cc)
+  no-lane-here f None e k = (in-neither e).1
 
   module _ (v : Valid s) where
     -- the cell of a held small message
@@ -110,7 +114,7 @@ module _ (s : ReceiveChannelReliable) (id : ℕ) where
     not-whole e o = rw e at (neither (in_cell_of s id) _ (neither (ltb id s.oldest_pending_message_id) (is_held s id) o).1).1
 
     -- of one in cell i: the cell is one of those that the settings ask for, and the id one that may come
-    pub small-held : (i : ℕ) → held_in s id ≡ held.At Small i → (i < s.settings.slots) × (id < LIMIT)
+    pub small-held : (i : ℕ) → held_in s id ≡ Some (held.At Small i) → (i < s.settings.slots) × (id < LIMIT)
     small-held i e =
         let t = in_small i e in
         let low : i < SLOTS = rw (← t.1) (ltb-true (cell_of s id) SLOTS t.0) in
@@ -119,7 +123,7 @@ module _ (s : ReceiveChannelReliable) (id : ℕ) where
         (g.within here.held, rw here.named at g.id_below)
 
     -- of one in lane l: it is whole besides
-    pub lane-held : (l : ℕ) → held_in s id ≡ held.At Lanes l → (l < s.settings.lanes) × (id < LIMIT) × (get_or s.whole l false ≡ true)
+    pub lane-held : (l : ℕ) → held_in s id ≡ Some (held.At Lanes l) → (l < s.settings.lanes) × (id < LIMIT) × (get_or s.whole l false ≡ true)
     lane-held l e =
         let t = in-lanes l e in
         let low : l < LANES = rw (← t.3) (ltb-true (lane_of s id) LANES t.1) in
@@ -128,13 +132,21 @@ module _ (s : ReceiveChannelReliable) (id : ℕ) where
         (g.within here.held, rw here.named at g.id_below, rw (← t.3) t.2)
 
     -- of one that is open in lane l: its charge tells its pieces
-    pub open-held : (l n : ℕ) → held_in s id ≡ held.Open l n → (in_lane_of s id ≡ true) × (lane_of s id ≡ l) × (n ≡ SLICE_SIZE * (constructor_at s l).num_slices)
+    pub open-held : (l n : ℕ) → held_in s id ≡ Some (held.Open (record { lane = l; charge = n })) → (in_lane_of s id ≡ true) × (lane_of s id ≡ l) × (n ≡ SLICE_SIZE * (constructor_at s l).num_slices)
     open-held l n e =
         let t = in-open l n e in
         let low : l < LANES = rw (← t.3) (ltb-true (lane_of s id) LANES t.1) in
         let here : Here s.lanes s.lane_ids id l = rw (← t.3) (lane_here t.1) in
         let charge : get_or s.lane_lens l 0 ≡ n = rw (← t.3) t.4 in
         (t.1, t.3, sym charge ∙ ((v.lane l low).opened here.held (rw (← t.3) t.2)).3)
+
+-- what is held whole is at a cell or lane
+pub at-place : (h : Option Held) (store : Store) (i : ℕ) → whole_of h ≡ Some (store, i) → h ≡ Some (held.At store i)
+at-place (Some (held.At x j)) store i e =
+    let p : ◌≡◌ {A = Store × ℕ} (x, j) (store, i) = cc in
+    ap (λ (q : Store × ℕ). Some (held.At q.0 q.1)) p
+at-place (Some (held.Open o)) store i e = clash (cc)
+at-place None store i e = clash (cc)
 
 -- ---- a look and a take go by it
 
@@ -144,7 +156,7 @@ store_len Small small lane = small
 store_len Lanes small lane = lane
 
 module _ (s : ReceiveChannelReliable) where
-  module _ (h : Held) (e : held_in s s.oldest_pending_message_id ≡ h) (k : ((store : Store) (i : ℕ) → h ≡ held.At store i → ⊥)) where
+  module _ (h : Option Held) (e : held_in s s.oldest_pending_message_id ≡ h) (k : whole_of h ≡ None) where
     pub waiting-nothing : waiting s ≡ none-waiting
     unfolding waiting
     waiting-nothing = let t = absent s s.oldest_pending_message_id h e k in rw (t.1, t.0)
@@ -153,15 +165,15 @@ module _ (s : ReceiveChannelReliable) where
     unfolding after_take
     take-nothing = let t = absent s s.oldest_pending_message_id h e k in rw (t.1, t.0)
 
-  pub take-small : (i : ℕ) → held_in s s.oldest_pending_message_id ≡ held.At Small i → after_take s ≡ without_cell s i
+  pub take-small : (i : ℕ) → held_in s s.oldest_pending_message_id ≡ Some (held.At Small i) → after_take s ≡ without_cell s i
   unfolding after_take
   take-small i e = let t = in_small s s.oldest_pending_message_id i e in rw (t.0, t.1)
 
-  pub take-lanes : (l : ℕ) → held_in s s.oldest_pending_message_id ≡ held.At Lanes l → after_take s ≡ without_lane s l
+  pub take-lanes : (l : ℕ) → held_in s s.oldest_pending_message_id ≡ Some (held.At Lanes l) → after_take s ≡ without_lane s l
   unfolding after_take
   take-lanes l e = let t = in-lanes s s.oldest_pending_message_id l e in rw (held-ignored s s.oldest_pending_message_id Lanes l e, t.0, t.3)
 
-  pub waiting-shown : (store : Store) (i : ℕ) → held_in s s.oldest_pending_message_id ≡ held.At store i → waiting s ≡ shown_at s store i
+  pub waiting-shown : (store : Store) (i : ℕ) → held_in s s.oldest_pending_message_id ≡ Some (held.At store i) → waiting s ≡ shown_at s store i
   unfolding waiting
   waiting-shown Small i e = let t = in_small s s.oldest_pending_message_id i e in rw (t.0, t.1)
   waiting-shown Lanes l e = let t = in-lanes s s.oldest_pending_message_id l e in rw (held-ignored s s.oldest_pending_message_id Lanes l e, t.0, t.3)
@@ -180,18 +192,18 @@ module _ (s : ReceiveChannelReliable) where
     message-tests false w id place len store e = clash (cc)
 
     module _ (v : Valid s) (id place len : ℕ) (small-room : small_len_of s.settings ≤ small) (lane_room : lanes_len_of s.settings ≤ lane) where
-      held-within : (h : Held) → held_in s s.oldest_pending_message_id ≡ h → (store : Store) → waiting s ≡ message id store place len → place + len ≤ store_len store small lane
-      held-within held.Nothing e store w = let n = waiting-nothing held.Nothing e (λ _ _ x. clash (cc)) in clash (cc)
-      held-within (held.Open l m) e store w = let n = waiting-nothing (held.Open l m) e (λ _ _ x. clash (cc)) in clash (cc)
-      held-within (held.At Small i) e Lanes w = let n = waiting-shown Small i e in clash (cc)
-      held-within (held.At Lanes l) e Small w = let n = waiting-shown Lanes l e in clash (cc)
-      held-within (held.At Small i) e Small w =
+      held-within : (h : Option Held) → held_in s s.oldest_pending_message_id ≡ h → (store : Store) → waiting s ≡ message id store place len → place + len ≤ store_len store small lane
+      held-within None e store w = let n = waiting-nothing None e refl in clash (cc)
+      held-within (Some (held.Open o)) e store w = let n = waiting-nothing (Some (held.Open o)) e refl in clash (cc)
+      held-within (Some (held.At Small i)) e Lanes w = let n = waiting-shown Small i e in clash (cc)
+      held-within (Some (held.At Lanes l)) e Small w = let n = waiting-shown Lanes l e in clash (cc)
+      held-within (Some (held.At Small i)) e Small w =
           let n = waiting-shown Small i e in
           let start : i * SLICE_SIZE ≡ place = cc in
           let long : get_or s.cell_lens i 0 ≡ len = cc in
           let low = (small-held s s.oldest_pending_message_id v i e).0 in
           omega (arith, (v.cell i (omega (arith, v.settings.slots-most))).small)
-      held-within (held.At Lanes l) e Lanes w =
+      held-within (Some (held.At Lanes l)) e Lanes w =
           let n = waiting-shown Lanes l e in
           let start : l * lane_len_of s.settings ≡ place = cc in
           let long : get_or s.lane_lens l 0 ≡ len = cc in

@@ -1,5 +1,7 @@
 -- What follows from the promises: what the usage is, that a look and a take agree, that a refusal and a repeat change nothing, and that
 -- each call has one outcome only. Assumes nothing.
+use Rattle.words.specs.declared.Refusal.{Refusal}
+use Rattle.std.specs.Prelude.{Result, Ok, Err, Option, Some, None}
 use Prim.Native.Nat.{ℕ, ◌+◌, ◌-◌, ◌*◌, ◌≤◌, ◌<◌}
 use mathlib.Core.Path.{◌≡◌, refl, sym, ap, ◌∙◌}
 use mathlib.Core.Bool.{Bool, true, false}
@@ -14,24 +16,19 @@ use Rattle.words.specs.Lists.{sum_below}
 use Rattle.words.proofs.Unique.{told-apart, refusal_of, refusal-undone}
 use Rattle.channel.specs.Settings.{lane_len_of, stores_hold_of}
 use Rattle.channel.specs.declared.Settings.{Settings}
-use Rattle.channel.specs.declared.Setup.{Setup}
 use Rattle.channel.proofs.Unique.{one-setup}
 use Rattle.channel.proofs.Held.{Here}
 use Rattle.slice_constructor.specs.Collect as c
 use Rattle.slice_constructor.proofs.Part.{repeat-good, repeat-bad, repeat-same}
 use Rattle.words.proofs.Tables.{by-test, clash, total-below}
-use Rattle.receive_reliable.specs.Receive.{lane_of, in_cell_of, is_held, ignores, Outcome, taken, ignored, refused, arrival_of, MessageSpot, cell, nowhere, message_spot, message_answer_of, message_state, message_bytes, SliceSpot, opened, fresh, nothing, entry_refusal, count_refusal, constructor_at, placed, open_spot, slice_spot, with_lane_of, slice_answer_of, slice_state, slice_bytes, Waiting, message, none-waiting, refusing, waiting, look_of, look_at, part_at, after_take, MadeGives, MessageGives, SliceGives, TakeGives, Valid}
+use Rattle.receive_reliable.specs.Receive.{lane_of, in_cell_of, is_held, ignores, Outcome, taken, ignored, refused, arrival_of, MessageSpot, cell, nowhere, message_spot, message_answer_of, message_state, message_bytes, SliceSpot, opened, fresh, nothing, entry_refusal, count_refusal, constructor_at, placed, open_spot, slice_spot, with_lane_of, slice_answer_of, slice_state, slice_bytes, Waiting, message, none-waiting, refusing, waiting, look_of, look_at, part_at, after_take, Made, MadeGives, Arrived, MessageGives, SliceGives, Received, TakeGives, Valid}
 use Rattle.receive_reliable.specs.Repeats.{Repeats}
 use Rattle.receive_reliable.specs.Usage.{cell_use, lane_use}
 use Rattle.receive_reliable.specs.declared.ReceiveChannelReliable.{ReceiveChannelReliable}
-use Rattle.receive_reliable.specs.declared.Made.{Made}
 use Rattle.receive_reliable.specs.declared.Arrival.{Arrival}
 use Rattle.receive_reliable.specs.declared.Arrival.TheVariants as arrival
-use Rattle.receive_reliable.specs.declared.Arrived.{Arrived}
-use Rattle.receive_reliable.specs.declared.Store.{Store}
-use Rattle.receive_reliable.specs.declared.Look.{Look}
-use Rattle.receive_reliable.specs.declared.Look.TheVariants as look
-use Rattle.receive_reliable.specs.declared.Received.{Received}
+use Rattle.channel.specs.declared.Store.{Store}
+use Rattle.receive_reliable.specs.declared.Message.{Message}
 use Rattle.receive_reliable.proofs.Spots.{lane_here, not-whole}
 use Rattle.receive_reliable.proofs.Valid.{lane-used}
 
@@ -59,41 +56,41 @@ module _ (s : ReceiveChannelReliable) (v : Valid s) where
 
 -- ---- one outcome only
 
-abbrev arrival_from : Outcome → Arrival
-arrival_from taken = arrival.Taken
-arrival_from ignored = arrival.Ignored
-arrival_from (refused n) = arrival.Refused (refusal_of n)
+abbrev arrival_from : Outcome → Result Arrival Refusal
+arrival_from taken = (Ok arrival.Taken)
+arrival_from ignored = (Ok arrival.Ignored)
+arrival_from (refused n) = Err (refusal_of n)
 
-arrival-undone : (a : Arrival) → arrival_from (arrival_of a) ≡ a
-arrival-undone arrival.Taken = refl
-arrival-undone arrival.Ignored = refl
-arrival-undone (arrival.Refused e) = ap arrival.Refused (refusal-undone e)
+arrival-undone : (a : Result Arrival Refusal) → arrival_from (arrival_of a) ≡ a
+arrival-undone (Ok arrival.Taken) = refl
+arrival-undone (Ok arrival.Ignored) = refl
+arrival-undone (Err e) = ap Err (refusal-undone e)
 
-same-arrival : (a b : Arrival) → arrival_of a ≡ arrival_of b → a ≡ b
+same-arrival : (a b : Result Arrival Refusal) → arrival_of a ≡ arrival_of b → a ≡ b
 same-arrival = told-apart arrival_of arrival_from arrival-undone
 
-abbrev look_from : Waiting → Look
-look_from (message id store place len) = look.Message (record { 0 = id }) store place len
-look_from none-waiting = look.Nothing
-look_from (refusing n) = look.Refused (refusal_of n)
+abbrev look_from : Waiting → Result (Option Message) Refusal
+look_from (message id store place len) = Ok (Some (record { id = record { 0 = id }; store = store; place = place; len = len }))
+look_from none-waiting = (Ok None)
+look_from (refusing n) = Err (refusal_of n)
 
-look-undone : (a : Look) → look_from (look_of a) ≡ a
-look-undone (look.Message id store place len) = refl
-look-undone look.Nothing = refl
-look-undone (look.Refused e) = ap look.Refused (refusal-undone e)
+look-undone : (a : Result (Option Message) Refusal) → look_from (look_of a) ≡ a
+look-undone (Ok (Some m)) = refl
+look-undone (Ok None) = refl
+look-undone (Err e) = ap Err (refusal-undone e)
 
-same-look : (a b : Look) → look_of a ≡ look_of b → a ≡ b
+same-look : (a b : Result (Option Message) Refusal) → look_of a ≡ look_of b → a ≡ b
 same-look = told-apart look_of look_from look-undone
 
 pub one-made : (s : Settings) (r q : Made) → MadeGives s r → MadeGives s q → r ≡ q
 one-made s r q x y =
     let a : r.answer ≡ q.answer = one-setup r.answer q.answer (x.number ∙ sym y.number) in
     let t : r.state ≡ q.state = x.state ∙ sym y.state in
-    ap (λ (b : Setup). record { answer = b; state = r.state }) a ∙ ap (λ (u : ReceiveChannelReliable). record { answer = q.answer; state = u }) t
+    ap (λ (b : Result (Unit {0}) Refusal). record { answer = b; state = r.state }) a ∙ ap (λ (u : ReceiveChannelReliable). record { answer = q.answer; state = u }) t
 
 one-arrived : (r q : Arrived) → arrival_of r.answer ≡ arrival_of q.answer → r.state ≡ q.state → r ≡ q
 one-arrived r q e t =
-    ap (λ (b : Arrival). record { answer = b; state = r.state }) (same-arrival r.answer q.answer e)
+    ap (λ (b : Result Arrival Refusal). record { answer = b; state = r.state }) (same-arrival r.answer q.answer e)
     ∙ ap (λ (u : ReceiveChannelReliable). record { answer = q.answer; state = u }) t
 
 pub one-message : (s : ReceiveChannelReliable) (id : ℕ) (bs small lane small₁ small₂ : List ℕ) (r q : Arrived)
@@ -106,25 +103,27 @@ pub one-slice : (s : ReceiveChannelReliable) (id num i : ℕ) (bs small lane lan
 one-slice s id num i bs small lane lane₁ lane₂ r q x y =
     (one-arrived r q (x.answer ∙ sym y.answer) (x.state ∙ sym y.state), x.bytes ∙ sym y.bytes)
 
-pub one-look : (s : ReceiveChannelReliable) (small lane : ℕ) (a b : Look) → look_of a ≡ look_at s small lane → look_of b ≡ look_at s small lane → a ≡ b
+pub one-look : (s : ReceiveChannelReliable) (small lane : ℕ) (a b : Result (Option Message) Refusal) → look_of a ≡ look_at s small lane → look_of b ≡ look_at s small lane → a ≡ b
 one-look s small lane a b x y = same-look a b (x ∙ sym y)
 
 pub one-take : (s : ReceiveChannelReliable) (r q : Received) → TakeGives s r → TakeGives s q → r ≡ q
 one-take s r q x y =
-    ap (λ (b : Look). record { answer = b; state = r.state }) (same-look r.answer q.answer (x.answer ∙ sym y.answer))
+    let a : ◌≡◌ {A = Result (Option Message) Refusal} (Ok r.answer) (Ok q.answer) = same-look (Ok r.answer) (Ok q.answer) (x.answer ∙ sym y.answer) in
+    let same : r.answer ≡ q.answer = cc in
+    ap (λ (b : Option Message). record { answer = b; state = r.state }) same
     ∙ ap (λ (u : ReceiveChannelReliable). record { answer = q.answer; state = u }) (x.state ∙ sym y.state)
 
 -- ---- a look and a take
 
 module _ (s : ReceiveChannelReliable) where
   -- with stores that hold, a look gives what a take hands out, and `message` is that part
-  pub look-is-take : (small lane : List ℕ) (a : Look) (part : List ℕ) (r : Received) → stores_hold_of s.settings (length small) (length lane) ≡ true
+  pub look-is-take : (small lane : List ℕ) (a : Result (Option Message) Refusal) (part : List ℕ) (r : Received) → stores_hold_of s.settings (length small) (length lane) ≡ true
       → look_of a ≡ look_at s (length small) (length lane) → part ≡ part_at (look_at s (length small) (length lane)) small lane → TakeGives s r
-      → (a ≡ r.answer) × (part ≡ part_at (look_of r.answer) small lane)
+      → (a ≡ Ok r.answer) × (part ≡ part_at (look_of (Ok r.answer)) small lane)
   unfolding look_at
   look-is-take small lane a part r h ea ep g =
-      let e : look_at s (length small) (length lane) ≡ look_of r.answer = rw h (sym g.answer) in
-      (same-look a r.answer (ea ∙ e), ep ∙ ap (λ (w : Waiting). part_at w small lane) e)
+      let e : look_at s (length small) (length lane) ≡ look_of (Ok r.answer) = rw h (sym g.answer) in
+      (same-look a (Ok r.answer) (ea ∙ e), ep ∙ ap (λ (w : Waiting). part_at w small lane) e)
 
   waiting-tests : (a h : Bool) (id p m q n : ℕ) (x y : Store) (t u : ReceiveChannelReliable)
       → pick a (message id x p m) (pick h (message id y q n) none-waiting) ≡ none-waiting → pick a t (pick h u s) ≡ s
@@ -133,7 +132,7 @@ module _ (s : ReceiveChannelReliable) where
   waiting-tests false false id p m q n x y t u e = refl
 
   -- a take with nothing waiting changes no state
-  pub nothing-taken : (r : Received) → TakeGives s r → look_of r.answer ≡ none-waiting → r.state ≡ s
+  pub nothing-taken : (r : Received) → TakeGives s r → look_of (Ok r.answer) ≡ none-waiting → r.state ≡ s
   unfolding waiting after_take
   nothing-taken r g e =
       g.state
@@ -169,11 +168,11 @@ module _ (s : ReceiveChannelReliable) where
 module _ (s : ReceiveChannelReliable) (v : Valid s) (id num i : ℕ) (bs small lane lane' : List ℕ) (r : Arrived) (g : SliceGives s id num i bs small lane lane' r)
     (stores : stores_hold_of s.settings (length small) (length lane) ≡ true) where
   -- of a message that is whole or was taken, whatever size it has
-  pub repeat-ignored : id < LIMIT → ignores s id ≡ true → (r.answer ≡ arrival.Ignored) × (r.state ≡ s) × (lane' ≡ lane)
+  pub repeat-ignored : id < LIMIT → ignores s id ≡ true → (r.answer ≡ (Ok arrival.Ignored)) × (r.state ≡ s) × (lane' ≡ lane)
   unfolding slice_spot entry_refusal
   repeat-ignored below old =
       let e : slice_spot s id num i (length bs) (length small) (length lane) ≡ nothing ignored = rw (stores, lt-leb _ _ below, old) in
-      (same-arrival r.answer arrival.Ignored (g.answer ∙ ap slice_answer_of e), rw e at g.state, rw e at g.bytes)
+      (same-arrival r.answer (Ok arrival.Ignored) (g.answer ∙ ap slice_answer_of e), rw e at g.state, rw e at g.bytes)
 
   -- of a message that is open
   module _ (p : Repeats s id num i) where
@@ -216,13 +215,13 @@ module _ (s : ReceiveChannelReliable) (v : Valid s) (id num i : ℕ) (bs small l
         )
 
     -- of the right size
-    pub repeat-accepted : c.sized (constructor_at s (lane_of s id)) i (length bs) ≡ true → (r.answer ≡ arrival.Taken) × (r.state ≡ s) × (lane' ≡ lane)
+    pub repeat-accepted : c.sized (constructor_at s (lane_of s id)) i (length bs) ≡ true → (r.answer ≡ (Ok arrival.Taken)) × (r.state ≡ s) × (lane' ≡ lane)
     repeat-accepted size =
         let l : ℕ = lane_of s id in
         let f = (v.lane l low).constructor in
         let e : slice_spot s id num i (length bs) (length small) (length lane) ≡ opened l = spot ∙ rw (repeat-good (constructor_at s l) f i (length bs) (lane_len_of s.settings) room p.here size) in
         let unmoved : c.taken (constructor_at s l) i (length bs) ≡ constructor_at s l = repeat-same (constructor_at s l) f i (length bs) (lane_len_of s.settings) room p.here in (
-          same-arrival r.answer arrival.Taken (g.answer ∙ ap slice_answer_of e),
+          same-arrival r.answer (Ok arrival.Taken) (g.answer ∙ ap slice_answer_of e),
           rw e at g.state ∙ ap (with_lane_of s l id) unmoved ∙ same-lane,
           rw (e, p.here) at g.bytes,
         )

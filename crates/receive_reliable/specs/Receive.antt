@@ -1,26 +1,24 @@
 -- The receiving end of a reliable channel, ordered. Document 01, part 4, "Sizes and settings", "Numbers a caller may see" and
 -- "Ordered receiver". Assumes nothing.
-use Rattle.std.specs.Prelude.{ℕ, ◌+◌, ◌-◌, ◌*◌, ◌≤◌, ◌<◌, ◌≡◌, Bool, true, false, not, List, [], ◌∷◌, length, get_or, set, take, drop, replicate, ltb, leb, eqb}
+use Rattle.std.specs.Prelude.{ℕ, ◌+◌, ◌-◌, ◌*◌, ◌≤◌, ◌<◌, ◌≡◌, Bool, true, false, not, List, [], ◌∷◌, length, get_or, set, take, drop, replicate, ltb, leb, eqb, Result, Ok, Err, Option, Some, None}
 use Rattle.words.specs.Sizes.{SLICE_SIZE, SLOTS, LANES, LIMIT}
 use Rattle.words.specs.Choice.{pick, refusal}
 use Rattle.words.specs.Lists.{splice, lowest_free_of, total}
 use Rattle.words.specs.Refusal.{number_of}
+use Rattle.words.specs.declared.Refusal.{Refusal}
+use Rattle.words.specs.declared.After.{After}
 use Rattle.channel.specs.Settings.{settings_refusal, setup_number, Good, least_settings, lane_len_of, stores_hold_of}
 use Rattle.channel.specs.Find.{held_at}
 use Rattle.channel.specs.declared.Settings.{Settings}
+use Rattle.channel.specs.declared.Store.{Store}
+use Rattle.channel.specs.declared.Store.TheVariants.{Small, Lanes}
 use Rattle.slice_constructor.specs.declared.SliceConstructor.{SliceConstructor}
 use Rattle.slice_constructor.specs.Collect as c
 pub use Rattle.slice_constructor.specs.Collect.{is_whole, lane_charge, kept}
 use Rattle.receive_reliable.specs.declared.ReceiveChannelReliable.{ReceiveChannelReliable}
-use Rattle.receive_reliable.specs.declared.Made.{Made}
 use Rattle.receive_reliable.specs.declared.Arrival.{Arrival}
 use Rattle.receive_reliable.specs.declared.Arrival.TheVariants as arrival
-use Rattle.receive_reliable.specs.declared.Arrived.{Arrived}
-use Rattle.receive_reliable.specs.declared.Store.{Store}
-use Rattle.receive_reliable.specs.declared.Store.TheVariants.{Small, Lanes}
-use Rattle.receive_reliable.specs.declared.Look.{Look}
-use Rattle.receive_reliable.specs.declared.Look.TheVariants as look
-use Rattle.receive_reliable.specs.declared.Received.{Received}
+use Rattle.receive_reliable.specs.declared.Message.{Message}
 
 -- ---- a new one
 
@@ -72,10 +70,10 @@ pub data Outcome : Type 0 where
   ignored : Outcome
   refused : ℕ → Outcome
 
-abbrev pub arrival_of : Arrival → Outcome
-arrival_of arrival.Taken = taken
-arrival_of arrival.Ignored = ignored
-arrival_of (arrival.Refused e) = refused (number_of e)
+abbrev pub arrival_of : Result Arrival Refusal → Outcome
+arrival_of (Ok arrival.Taken) = taken
+arrival_of (Ok arrival.Ignored) = ignored
+arrival_of (Err e) = refused (number_of e)
 
 -- what every arrival is judged by first, with stores of these lengths lent: 10, 13
 unfoldable pub entry_refusal : ReceiveChannelReliable → ℕ → ℕ → ℕ → ℕ
@@ -238,10 +236,10 @@ waiting s =
     (get_or s.lane_lens (lane_of s s.oldest_pending_message_id) 0))
     none-waiting)
 
-abbrev pub look_of : Look → Waiting
-look_of (look.Message id store place len) = message id.0 store place len
-look_of look.Nothing = none-waiting
-look_of (look.Refused e) = refusing (number_of e)
+abbrev pub look_of : Result (Option Message) Refusal → Waiting
+look_of (Ok (Some m)) = message m.id.0 m.store m.place m.len
+look_of (Ok None) = none-waiting
+look_of (Err e) = refusing (number_of e)
 
 -- a look, with stores of these lengths lent: 10
 unfoldable pub look_at : ReceiveChannelReliable → ℕ → ℕ → Waiting
@@ -337,7 +335,16 @@ pub record Valid (s : ReceiveChannelReliable) : Type 0 where
   pub usage : s.memory_usage_bytes ≡ total (λ n. n) s.cell_lens + total (λ n. n) s.lane_lens
   pub usage-most : s.memory_usage_bytes ≤ s.settings.max_memory_usage_bytes
 
--- ---- what each call gives, all of it
+-- ---- what each call gives, all of it: an answer, and the receiver
+
+abbrev pub Made : Type 0
+Made = After (Result (Unit {0}) Refusal) ReceiveChannelReliable
+
+abbrev pub Arrived : Type 0
+Arrived = After (Result Arrival Refusal) ReceiveChannelReliable
+
+abbrev pub Received : Type 0
+Received = After (Option Message) ReceiveChannelReliable
 
 pub record MadeGives (s : Settings) (r : Made) : Type 0 where
   pub number : setup_number r.answer ≡ settings_refusal s
@@ -357,6 +364,6 @@ pub record SliceGives (s : ReceiveChannelReliable) (id num i : ℕ) (bs small la
   pub valid : Valid r.state
 
 pub record TakeGives (s : ReceiveChannelReliable) (r : Received) : Type 0 where
-  pub answer : look_of r.answer ≡ waiting s
+  pub answer : look_of (Ok r.answer) ≡ waiting s
   pub state : r.state ≡ after_take s
   pub valid : Valid r.state

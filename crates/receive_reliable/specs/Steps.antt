@@ -1,5 +1,5 @@
 -- What the private functions give. Assumes nothing.
-use Rattle.std.specs.Prelude.{ℕ, ◌+◌, ◌-◌, ◌*◌, ◌≤◌, ◌<◌, ◌≡◌, Bool, false, List, get_or, ltb, eqb}
+use Rattle.std.specs.Prelude.{ℕ, ◌+◌, ◌-◌, ◌*◌, ◌≤◌, ◌<◌, ◌≡◌, Bool, false, List, get_or, ltb, eqb, Result, Option, Some, None}
 use Rattle.words.specs.Sizes.{SLICE_SIZE, SLOTS, LANES, LIMIT}
 use Rattle.words.specs.Choice.{pick}
 use Rattle.words.specs.Lists.{lowest_free_of}
@@ -9,20 +9,34 @@ use Rattle.slice_constructor.specs.Collect as c
 use Rattle.receive_reliable.specs.Receive.{cell_of, lane_of, in_lane_of, ignores, Outcome, taken, ignored, refused, arrival_of, judged, entry_refusal, MessageSpot, cell, nowhere, SliceSpot, opened, fresh, nothing, count_refusal, fresh_refusal, constructor_at, Waiting, message}
 use Rattle.receive_reliable.specs.declared.ReceiveChannelReliable.{ReceiveChannelReliable}
 use Rattle.receive_reliable.specs.declared.Arrival.{Arrival}
-use Rattle.receive_reliable.specs.declared.Store.{Store}
-use Rattle.receive_reliable.specs.declared.Store.TheVariants.{Small, Lanes}
+use Rattle.words.specs.declared.Refusal.{Refusal}
+use Rattle.channel.specs.declared.Store.{Store}
+use Rattle.channel.specs.declared.Store.TheVariants.{Small, Lanes}
+use Rattle.channel.specs.declared.Opened.{Opened}
+use Rattle.channel.specs.declared.SlicePlace.{SlicePlace}
 use Rattle.receive_reliable.specs.declared.Held.{Held}
 use Rattle.receive_reliable.specs.declared.Held.TheVariants as held
-use Rattle.receive_reliable.specs.declared.SlicePlace.{SlicePlace}
 
 -- where a message is, by its cell and its lane, which are past the tables where it has none
-unfoldable pub held_by_of : ℕ → ℕ → List Bool → List ℕ → Held
+unfoldable pub held_by_of : ℕ → ℕ → List Bool → List ℕ → Option Held
 held_by_of i l wholes lens =
-    pick (ltb i SLOTS) (held.At Small i)
-    (pick (ltb l LANES) (pick (get_or wholes l false) (held.At Lanes l) (held.Open l (get_or lens l 0))) held.Nothing)
+    pick (ltb i SLOTS) (Some (held.At Small i))
+    (pick (ltb l LANES) (pick (get_or wholes l false) (Some (held.At Lanes l)) (Some (held.Open (record { lane = l; charge = get_or lens l 0 })))) None)
 
-abbrev pub held_in : ReceiveChannelReliable → ℕ → Held
+abbrev pub held_in : ReceiveChannelReliable → ℕ → Option Held
 held_in s id = held_by_of (cell_of s id) (lane_of s id) s.whole s.lane_lens
+
+-- the cell or lane of a message that is so held, where it is whole
+abbrev pub whole_of : Option Held → Option (Store × ℕ)
+whole_of (Some (held.At store i)) = Some (store, i)
+whole_of (Some (held.Open o)) = None
+whole_of None = None
+
+-- its lane, where it is open
+abbrev pub open_of : Option Held → Option Opened
+open_of (Some (held.Open o)) = Some o
+open_of (Some (held.At store i)) = None
+open_of None = None
 
 -- the one in a cell or lane, as a look shows it
 abbrev pub shown_at : ReceiveChannelReliable → Store → ℕ → Waiting
@@ -40,20 +54,20 @@ told f a ignored = f ignored
 told f a (refused e) = f (refused e)
 
 -- where a small message goes that is told so, with cell i free for it
-abbrev pub message_to : ℕ → Arrival → MessageSpot
+abbrev pub message_to : ℕ → Result Arrival Refusal → MessageSpot
 message_to i a = told nowhere (cell i) (arrival_of a)
 
 -- the lane for a piece: its message's where that is open, else lane i, which is free
-abbrev pub lane_for_of : Held → ℕ → SliceSpot
-lane_for_of (held.Open l n) i = opened l
-lane_for_of (held.At store j) i = fresh i
-lane_for_of held.Nothing i = fresh i
+abbrev pub lane_for_of : Option Held → ℕ → SliceSpot
+lane_for_of (Some (held.Open o)) i = opened o.lane
+lane_for_of (Some (held.At store j)) i = fresh i
+lane_for_of None i = fresh i
 
 abbrev pub slice_place_of : SlicePlace → SliceSpot
 slice_place_of p = pick p.fresh (fresh p.lane) (opened p.lane)
 
 -- where a piece goes that is told so, with this lane for it
-abbrev pub slice_to : SliceSpot → Arrival → SliceSpot
+abbrev pub slice_to : SliceSpot → Result Arrival Refusal → SliceSpot
 slice_to lane a = told nothing lane (arrival_of a)
 
 -- the lane for a piece, before its index and size are judged

@@ -1,17 +1,20 @@
 #![tactic(auto)]
 // The receiving end of a reliable channel, in ordered mode. Small messages are held in cells of one
 // lent store, sliced ones are put together in lanes of the other; messages come out by rising id.
-ghost use Rattle.std.specs.Prelude.{◌≡◌, ◌≤◌, length};
+ghost use Rattle.std.specs.Prelude.{◌≡◌, ◌≤◌, length, Ok, Some};
 ghost use Rattle.words.specs.Lists.{lowest_free_of};
-ghost use Rattle.channel.specs.Find.{held_at};
-ghost use Rattle.receive_reliable.specs.Receive.{Valid, new_of, MadeGives, arrival_of, MessageGives, message_spot, fresh, SliceGives, look_at, look_of, part_at, TakeGives};
-ghost use Rattle.receive_reliable.specs.Steps.{held_by_of, held_in, entry_of, message_to, slice_place_of, lane_for_of, slice_to, fresh_lane, lane_spot};
+ghost use Rattle.channel.specs.Settings.{Good};
+ghost use Rattle.receive_reliable.specs.Receive.{new_of, MadeGives, arrival_of, MessageGives, message_spot, fresh, SliceGives, with_lane_of, look_at, look_of, part_at, TakeGives};
+ghost use Rattle.receive_reliable.specs.Steps.{shown_at, Fits, held_in, entry_of, message_to, lane_for_of, whole_of, open_of, slice_to, fresh_lane, lane_spot};
 
-use channel::{Settings, Setup};
-use slice_constructor::{Collect, SliceConstructor};
-use words::{LANES, LIMIT, MessageId, Refusal, SLICE_SIZE, SLOTS, SliceIndex};
+use channel::{Opened, Settings, Store};
+use slice_constructor::SliceConstructor;
+use std::marker::Model;
+use words::{After, LANES, LIMIT, MessageId, Refusal, SLICE_SIZE, SLOTS, SliceIndex};
 
-// Entries of free cells and lanes are blank.
+// Entries of free cells and lanes are blank. Columns, and no array of rows: a search reads the ids
+// and what is held alone. Arrays of `Option<Cell>` and `Option<Lane>` were tried: an arrival took 46
+// percent more instructions, and a take 67.
 #[derive(Clone, Copy)]
 pub struct ReceiveChannelReliable {
     settings: Settings,
@@ -29,60 +32,52 @@ pub struct ReceiveChannelReliable {
     constructors: [SliceConstructor; LANES],
 }
 
-#[derive(Clone, Copy)]
-pub struct Made {
-    pub answer: Setup,
-    pub state: ReceiveChannelReliable,
+// A contract sees its fields, of which `Valid` is always true.
+impl Model for ReceiveChannelReliable {
+    ghost use Rattle.receive_reliable.specs.State.{State};
+
+    ghost Value = { State };
+
+    ghost use Rattle.receive_reliable.specs.Receive.{Valid};
+    ghost use Rattle.receive_reliable.specs.Fields.{state_of, fields_of};
+
+    ghost view = { state_of };
+
+    ghost invariant = { λ a. Valid (state_of a) };
+
+    ghost inverse = { fields_of };
 }
 
-// What came of a message or a piece: it was taken, it was old or held already, or it was refused.
-#[derive(Clone, Copy)]
+// Whether it was set up, and the receiver.
+pub type Made = After<Result<(), Refusal>, ReceiveChannelReliable>;
+
+// What came of a message or a piece: it was taken, or it was old or held already.
+#[derive(Clone, Copy, Debug, PartialEq, Eq)]
 pub enum Arrival {
     Taken,
     Ignored,
-    Refused(Refusal),
 }
 
-#[derive(Clone, Copy)]
-pub struct Arrived {
-    pub answer: Arrival,
-    pub state: ReceiveChannelReliable,
-}
-
-// Which of the two lent stores.
-#[derive(Clone, Copy)]
-pub enum Store {
-    Small,
-    Lanes,
-}
+// What came of it or why it was refused, and the receiver.
+pub type Arrived = After<Result<Arrival, Refusal>, ReceiveChannelReliable>;
 
 // The message that comes out next: its id, the store that holds it, its place there and its length.
-#[derive(Clone, Copy)]
-pub enum Look {
-    Message(MessageId, Store, usize, usize),
-    Nothing,
-    Refused(Refusal),
+#[derive(Clone, Copy, Debug, PartialEq, Eq)]
+pub struct Message {
+    pub id: MessageId,
+    pub store: Store,
+    pub place: usize,
+    pub len: usize,
 }
 
-#[derive(Clone, Copy)]
-pub struct Received {
-    pub answer: Look,
-    pub state: ReceiveChannelReliable,
-}
+// The message that was handed out, if one was waiting, and the receiver.
+pub type Received = After<Option<Message>, ReceiveChannelReliable>;
 
-// Where a message is: whole in a cell or lane of a store, or open in a lane, with its charge.
+// Where a message is: whole in a cell or lane of a store, or open in a lane.
 #[derive(Clone, Copy)]
 enum Held {
     At(Store, usize),
-    Open(usize, usize),
-    Nothing,
-}
-
-// The lane that a piece goes to; whether that one is new.
-#[derive(Clone, Copy)]
-struct SlicePlace {
-    lane: usize,
-    fresh: bool,
+    Open(Opened),
 }
 
 impl ReceiveChannelReliable {
@@ -91,10 +86,10 @@ impl ReceiveChannelReliable {
         ensures { MadeGives settings result }
     {
         let settled = settings.settle();
-        let answer = settled.answer;
-        let used = settled.settings;
-        let state = ReceiveChannelReliable::empty(used);
-        Made { answer, state }
+        After {
+            answer: settled.answer,
+            state: ReceiveChannelReliable::empty(settled.settings),
+        }
     }
 
     // Takes a small message: its bytes go to the front of the lowest free cell.
@@ -105,24 +100,14 @@ impl ReceiveChannelReliable {
         small: &mut [u8],
         lanes: &[u8],
     ) -> Arrived
-        requires { Valid self }
         ensures { MessageGives self message_id.0 message.now small.old lanes.now small.new result }
     {
         let id = message_id.0;
         let n = message.len();
-        let held = locate(
-            &self.cells,
-            &self.cell_ids,
-            &self.lanes,
-            &self.lane_ids,
-            &self.whole,
-            &self.lane_lens,
-            id,
-        );
         let free = words::lowest_free(&self.cells, self.settings.slots);
-        let answer = self.message_answer(held, free, id, n, small.len(), lanes.len());
-        let Arrival::Taken = answer else {
-            return Arrived {
+        let answer = self.message_answer(free, id, n, small.len(), lanes.len());
+        let Ok(Arrival::Taken) = answer else {
+            return After {
                 answer,
                 state: self,
             };
@@ -132,8 +117,8 @@ impl ReceiveChannelReliable {
         self.cells[free] = true;
         self.cell_ids[free] = id;
         self.cell_lens[free] = n as u16;
-        Arrived {
-            answer: Arrival::Taken,
+        After {
+            answer: Ok(Arrival::Taken),
             state: self,
         }
     }
@@ -148,28 +133,19 @@ impl ReceiveChannelReliable {
         small: &[u8],
         lanes: &mut [u8],
     ) -> Arrived
-        requires { Valid self }
         ensures { SliceGives self message_id.0 num_slices slice_index.0 payload.now small.now lanes.old lanes.new result }
     {
         let id = message_id.0;
-        let held = locate(
-            &self.cells,
-            &self.cell_ids,
-            &self.lanes,
-            &self.lane_ids,
-            &self.whole,
-            &self.lane_lens,
-            id,
-        );
+        let held = self.locate(id);
         let free = words::lowest_free(&self.lanes, self.settings.lanes);
         let answer = self.slice_answer(held, free, id, num_slices, small.len(), lanes.len());
-        let Arrival::Taken = answer else {
-            return Arrived {
+        let Ok(Arrival::Taken) = answer else {
+            return After {
                 answer,
                 state: self,
             };
         };
-        let place = lane_for(held, free);
+        let place = channel::lane_for(open_lane(held), free);
         let l = place.lane;
         let stored = self.constructors[l];
         let constructor = stored.start(place.fresh, message_id, num_slices as usize);
@@ -177,133 +153,82 @@ impl ReceiveChannelReliable {
         let start = l * size;
         let end = start + size;
         let collected = constructor.process_slice(slice_index, payload, &mut lanes[start..end]);
-        let answer = collected.answer;
-        if let Collect::Refused(e) = answer {
-            return Arrived {
-                answer: Arrival::Refused(e),
+        if let Err(e) = collected.answer {
+            return After {
+                answer: Err(e),
                 state: self,
             };
         }
-        let kept = collected.state.keep();
-        let charge = self.lane_lens[l];
-        self.memory_usage_bytes = self.memory_usage_bytes - charge + kept.len;
-        self.lanes[l] = true;
-        self.whole[l] = kept.whole;
-        self.lane_ids[l] = id;
-        self.lane_lens[l] = kept.len;
-        let constructor = kept.constructor;
-        self.constructors[l] = constructor;
-        Arrived {
-            answer: Arrival::Taken,
+        self.keep(l, id, collected.state);
+        After {
+            answer: Ok(Arrival::Taken),
             state: self,
         }
     }
 
     // The message that a take would hand out now.
-    pub fn look(self, small: &[u8], lanes: &[u8]) -> Look
-        requires { Valid self }
+    pub fn look(self, small: &[u8], lanes: &[u8]) -> Result<Option<Message>, Refusal>
         ensures { look_of result ≡ look_at self (length small.now) (length lanes.now) }
     {
         let settings = self.settings;
-        if settings.stores_hold(small.len(), lanes.len()) {
-            let id = self.oldest_pending_message_id;
-            let held = locate(
-                &self.cells,
-                &self.cell_ids,
-                &self.lanes,
-                &self.lane_ids,
-                &self.whole,
-                &self.lane_lens,
-                id,
-            );
-            let Held::At(store, i) = held else {
-                return Look::Nothing;
-            };
-            match store {
-                Store::Small => {
-                    let len = self.cell_lens[i] as usize;
-                    return Look::Message(MessageId(id), Store::Small, i * SLICE_SIZE, len);
-                }
-                Store::Lanes => {
-                    let len = self.lane_lens[i];
-                    let size = self.settings.pieces * SLICE_SIZE;
-                    return Look::Message(MessageId(id), Store::Lanes, i * size, len);
-                }
-            }
+        if !settings.stores_hold(small.len(), lanes.len()) {
+            return Err(Refusal::BadStore);
         }
-        Look::Refused(Refusal::BadStore)
+        let Some((store, i)) = self.waiting() else {
+            return Ok(None);
+        };
+        Ok(Some(self.shown(store, i)))
     }
 
     // Its bytes, as a part of whichever store holds it; an empty part where nothing is waiting.
     pub fn message<'a>(self, small: &'a [u8], lanes: &'a [u8]) -> &'a [u8]
-        requires { Valid self }
         ensures { result.now ≡ part_at (look_at self (length small.now) (length lanes.now)) small.now lanes.now }
     {
-        let look = self.look(small, lanes);
-        let Look::Message(_, store, place, len) = look else {
+        // what is shown lies within its store by `Valid`, which the first use of a field brings
+        let _ = &self.settings;
+        let Ok(Some(m)) = self.look(small, lanes) else {
             return &small[..0];
         };
-        match store {
-            Store::Small => channel::part(small, place, len),
-            Store::Lanes => channel::part(lanes, place, len),
+        match m.store {
+            Store::Small => channel::part(small, m.place, m.len),
+            Store::Lanes => channel::part(lanes, m.place, m.len),
         }
     }
 
     // Hands the waiting message out: its cell or lane is free again, and the next id is awaited.
     pub fn receive_message(mut self) -> Received
-        requires { Valid self }
         ensures { TakeGives self result }
     {
-        let oldest = self.oldest_pending_message_id;
-        let held = locate(
-            &self.cells,
-            &self.cell_ids,
-            &self.lanes,
-            &self.lane_ids,
-            &self.whole,
-            &self.lane_lens,
-            oldest,
-        );
-        let Held::At(store, i) = held else {
-            return Received {
-                answer: Look::Nothing,
+        let Some((store, i)) = self.waiting() else {
+            return After {
+                answer: None,
                 state: self,
             };
         };
-        self.oldest_pending_message_id = oldest + 1;
+        let message = self.shown(store, i);
+        self.oldest_pending_message_id += 1;
+        self.memory_usage_bytes -= message.len;
         match store {
             Store::Small => {
-                let len = self.cell_lens[i] as usize;
-                let answer = Look::Message(MessageId(oldest), Store::Small, i * SLICE_SIZE, len);
-                self.memory_usage_bytes -= len;
                 self.cells[i] = false;
                 self.cell_ids[i] = 0;
                 self.cell_lens[i] = 0;
-                return Received {
-                    answer,
-                    state: self,
-                };
             }
             Store::Lanes => {
-                let len = self.lane_lens[i];
-                let size = self.settings.pieces * SLICE_SIZE;
-                let answer = Look::Message(MessageId(oldest), Store::Lanes, i * size, len);
-                self.memory_usage_bytes -= len;
                 self.lanes[i] = false;
                 self.whole[i] = false;
                 self.lane_ids[i] = 0;
                 self.lane_lens[i] = 0;
-                return Received {
-                    answer,
-                    state: self,
-                };
             }
+        }
+        After {
+            answer: Some(message),
+            state: self,
         }
     }
 
     // How many bytes the held messages and the open lanes take.
     pub fn memory_usage_bytes(self) -> usize
-        requires { Valid self }
         ensures { result ≡ self.memory_usage_bytes }
     {
         self.memory_usage_bytes
@@ -311,6 +236,7 @@ impl ReceiveChannelReliable {
 
     // A receiver that holds nothing and awaits id 0.
     fn empty(settings: Settings) -> ReceiveChannelReliable
+        requires { Good settings }
         ensures { result ≡ new_of settings }
     {
         let constructor = SliceConstructor::blank();
@@ -329,149 +255,194 @@ impl ReceiveChannelReliable {
         }
     }
 
+    // Where the message with an id is, if it is here.
+    fn locate(&self, id: u64) -> Option<Held>
+        ensures { result ≡ held_in self.now id }
+    {
+        let cell = channel::find(&self.cells, &self.cell_ids, id);
+        if cell < SLOTS {
+            return Some(Held::At(Store::Small, cell));
+        }
+        let lane = channel::find(&self.lanes, &self.lane_ids, id);
+        if LANES <= lane {
+            return None;
+        }
+        if self.whole[lane] {
+            return Some(Held::At(Store::Lanes, lane));
+        }
+        let charge = self.lane_lens[lane];
+        Some(Held::Open(Opened { lane, charge }))
+    }
+
+    // Where the message lies that comes out next, if it is whole.
+    fn waiting(&self) -> Option<(Store, usize)>
+        ensures { result ≡ whole_of (held_in self.now self.now.oldest_pending_message_id) }
+    {
+        whole(self.locate(self.oldest_pending_message_id))
+    }
+
+    // That message, by the cell or lane that holds it.
+    fn shown(&self, store: Store, i: usize) -> Message
+        requires { whole_of (held_in self.now self.now.oldest_pending_message_id) ≡ Some (store, i) }
+        ensures { look_of (Ok (Some result)) ≡ shown_at self.now store i }
+    {
+        let id = MessageId(self.oldest_pending_message_id);
+        match store {
+            Store::Small => Message {
+                id,
+                store,
+                place: i * SLICE_SIZE,
+                len: self.cell_lens[i] as usize,
+            },
+            Store::Lanes => Message {
+                id,
+                store,
+                place: i * (self.settings.pieces * SLICE_SIZE),
+                len: self.lane_lens[i],
+            },
+        }
+    }
+
+    // Keeps a message in lane l, by its constructor: open, or whole.
+    fn keep(&mut self, l: usize, id: u64, constructor: SliceConstructor)
+        requires { Fits self.old l id constructor }
+        ensures { self.new ≡ with_lane_of self.old l id constructor }
+    {
+        let kept = constructor.keep();
+        self.memory_usage_bytes = self.memory_usage_bytes - self.lane_lens[l] + kept.len;
+        self.lanes[l] = true;
+        self.whole[l] = kept.whole;
+        self.lane_ids[l] = id;
+        self.lane_lens[l] = kept.len;
+        self.constructors[l] = kept.constructor;
+    }
+
     // Judges what arrives by the stores and its id: one that is neither old nor held may be taken.
-    fn entry(self, held: Held, id: u64, small: usize, lane: usize) -> Arrival
-        requires { Valid self × (held ≡ held_in self id) }
-        ensures { arrival_of result ≡ entry_of self id small lane }
+    fn entry(
+        &self,
+        held: Option<Held>,
+        id: u64,
+        small: usize,
+        lane: usize,
+    ) -> Result<Arrival, Refusal>
+        requires { held ≡ held_in self.now id }
+        ensures { arrival_of result ≡ entry_of self.now id small lane }
     {
         let settings = self.settings;
-        if settings.stores_hold(small, lane) {
-            if LIMIT <= id {
-                return Arrival::Refused(Refusal::BadNumber);
-            }
-            if id < self.oldest_pending_message_id {
-                return Arrival::Ignored;
-            }
-            if let Held::At(_, _) = held {
-                return Arrival::Ignored;
-            }
-            return Arrival::Taken;
+        if !settings.stores_hold(small, lane) {
+            return Err(Refusal::BadStore);
         }
-        Arrival::Refused(Refusal::BadStore)
+        if LIMIT <= id {
+            return Err(Refusal::BadNumber);
+        }
+        if id < self.oldest_pending_message_id {
+            return Ok(Arrival::Ignored);
+        }
+        if let Some(_) = whole(held) {
+            return Ok(Arrival::Ignored);
+        }
+        Ok(Arrival::Taken)
     }
 
     // What a small message of n bytes is told, where `free` is the lowest free cell.
     fn message_answer(
-        self,
-        held: Held,
+        &self,
         free: usize,
         id: u64,
         n: usize,
         small: usize,
         lane: usize,
-    ) -> Arrival
-        requires { Valid self × (held ≡ held_in self id) × (free ≡ lowest_free_of self.cells self.settings.slots) }
-        ensures { message_to free result ≡ message_spot self id n small lane }
+    ) -> Result<Arrival, Refusal>
+        requires { free ≡ lowest_free_of self.now.cells self.now.settings.slots }
+        ensures { message_to free result ≡ message_spot self.now id n small lane }
     {
-        let entry = self.entry(held, id, small, lane);
-        let Arrival::Taken = entry else {
-            return entry;
-        };
-        if SLICE_SIZE < n {
-            return Arrival::Refused(Refusal::TooLong);
+        let held = self.locate(id);
+        if let Arrival::Ignored = self.entry(held, id, small, lane)? {
+            return Ok(Arrival::Ignored);
         }
-        if let Held::Open(_, _) = held {
-            return Arrival::Refused(Refusal::WrongKind);
+        if SLICE_SIZE < n {
+            return Err(Refusal::TooLong);
+        }
+        if let Some(_) = open_lane(held) {
+            return Err(Refusal::WrongKind);
         }
         if self.settings.max_memory_usage_bytes < self.memory_usage_bytes + n {
-            return Arrival::Refused(Refusal::ReliableChannelMaxMemoryReached);
+            return Err(Refusal::ReliableChannelMaxMemoryReached);
         }
         if self.settings.slots <= free {
-            return Arrival::Refused(Refusal::TableFull);
+            return Err(Refusal::TableFull);
         }
-        Arrival::Taken
+        Ok(Arrival::Taken)
     }
 
     // What a piece of a message with so many pieces is told, where `free` is the lowest free lane.
     fn slice_answer(
-        self,
-        held: Held,
+        &self,
+        held: Option<Held>,
         free: usize,
         id: u64,
         num_slices: u64,
         small: usize,
         lane: usize,
-    ) -> Arrival
-        requires { Valid self × (held ≡ held_in self id) × (free ≡ lowest_free_of self.lanes self.settings.lanes) }
-        ensures { slice_to (lane_for_of held free) result ≡ lane_spot self id num_slices small lane }
+    ) -> Result<Arrival, Refusal>
+        requires { (held ≡ held_in self.now id) × (free ≡ lowest_free_of self.now.lanes self.now.settings.lanes) }
+        ensures { slice_to (lane_for_of held free) result ≡ lane_spot self.now id num_slices small lane }
     {
-        let entry = self.entry(held, id, small, lane);
-        let Arrival::Taken = entry else {
-            return entry;
-        };
+        if let Arrival::Ignored = self.entry(held, id, small, lane)? {
+            return Ok(Arrival::Ignored);
+        }
         if num_slices == 0 {
-            return Arrival::Refused(Refusal::InvalidSliceMessage);
+            return Err(Refusal::InvalidSliceMessage);
         }
         if (self.settings.pieces as u64) < num_slices {
-            return Arrival::Refused(Refusal::TooLong);
+            return Err(Refusal::TooLong);
         }
         let num = num_slices as usize;
-        if let Held::Open(_, charge) = held {
+        if let Some(o) = open_lane(held) {
             // an open lane's charge tells how many pieces its message has
-            if charge == SLICE_SIZE * num {
-                return Arrival::Taken;
+            if o.charge != SLICE_SIZE * num {
+                return Err(Refusal::InvalidSliceMessage);
             }
-            return Arrival::Refused(Refusal::InvalidSliceMessage);
+            return Ok(Arrival::Taken);
         }
         self.fresh(free, num)
     }
 
     // What a message with so many pieces is told that would open the lane `free`.
-    fn fresh(self, free: usize, num_slices: usize) -> Arrival
-        requires { Valid self × (free ≡ lowest_free_of self.lanes self.settings.lanes) × (num_slices ≤ self.settings.pieces) }
-        ensures { slice_to (fresh free) result ≡ fresh_lane self num_slices }
+    fn fresh(&self, free: usize, num_slices: usize) -> Result<Arrival, Refusal>
+        requires { (free ≡ lowest_free_of self.now.lanes self.now.settings.lanes) × (num_slices ≤ self.now.settings.pieces) }
+        ensures { slice_to (fresh free) result ≡ fresh_lane self.now num_slices }
     {
         if self.settings.max_memory_usage_bytes
             < self.memory_usage_bytes + SLICE_SIZE * num_slices
         {
-            return Arrival::Refused(Refusal::ReliableChannelMaxMemoryReached);
+            return Err(Refusal::ReliableChannelMaxMemoryReached);
         }
         if self.settings.lanes <= free {
-            return Arrival::Refused(Refusal::TableFull);
+            return Err(Refusal::TableFull);
         }
-        Arrival::Taken
+        Ok(Arrival::Taken)
     }
 }
 
-// The lane for a piece: its message's where that is open, else the free one.
-fn lane_for(held: Held, free: usize) -> SlicePlace
-    ensures { slice_place_of result ≡ lane_for_of held free }
+// The cell or lane of a message that is whole, if it is.
+fn whole(held: Option<Held>) -> Option<(Store, usize)>
+    ensures { result ≡ whole_of held }
 {
-    if let Held::Open(l, _) = held {
-        return SlicePlace {
-            lane: l,
-            fresh: false,
-        };
-    }
-    SlicePlace {
-        lane: free,
-        fresh: true,
+    match held {
+        Some(Held::At(store, i)) => Some((store, i)),
+        Some(Held::Open(_)) => None,
+        None => None,
     }
 }
 
-// Where the message with an id is, by the columns of the two tables.
-fn locate<'a>(
-    cells: &'a [bool; SLOTS],
-    cell_ids: &'a [u64; SLOTS],
-    lanes: &'a [bool; LANES],
-    lane_ids: &'a [u64; LANES],
-    whole: &'a [bool; LANES],
-    lane_lens: &'a [usize; LANES],
-    id: u64,
-) -> Held
-    ensures { result ≡ held_by_of (held_at cells.now cell_ids.now id) (held_at lanes.now lane_ids.now id) whole.now lane_lens.now }
+// The lane of a message that is open, if it is.
+fn open_lane(held: Option<Held>) -> Option<Opened>
+    ensures { result ≡ open_of held }
 {
-    let cell = channel::find(cells, cell_ids, id);
-    if cell < SLOTS {
-        return Held::At(Store::Small, cell);
+    match held {
+        Some(Held::Open(o)) => Some(o),
+        Some(Held::At(_, _)) => None,
+        None => None,
     }
-    let lane = channel::find(lanes, lane_ids, id);
-    if LANES <= lane {
-        return Held::Nothing;
-    }
-    let done = whole[lane];
-    if done {
-        return Held::At(Store::Lanes, lane);
-    }
-    Held::Open(lane, lane_lens[lane])
 }

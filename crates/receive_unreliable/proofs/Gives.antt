@@ -1,42 +1,40 @@
 -- What the public functions give, from where a message, a piece, a walk or a look leads. Assumes nothing.
+use Rattle.std.specs.Prelude.{Result, Ok, Err, Option, Some, None}
 use Prim.Native.Nat.{ℕ, ◌+◌, ◌*◌, ◌≤◌, ◌<◌}
 use mathlib.Core.Path.{◌≡◌, refl, sym, ap, ◌∙◌}
 use mathlib.Core.Bool.{Bool, true, false}
-use mathlib.Core.List.{List, [], ◌++◌}
+use mathlib.Core.List.{List, ◌++◌}
 use native.Mathlib.Omega.{arith}
 use borrow.Author.Tests.{eqb-true, lt-ltb, le-ltb}
 use lib.Dec.{eqb}
 use lib.ListN.{length, get_or, take, drop}
-use Rattle.words.specs.Sizes.{SLICE_SIZE, LANES, PIECES}
+use Rattle.words.specs.Sizes.{SLICE_SIZE, LANES, PIECES, LIMIT}
 use Rattle.words.specs.Choice.{pick}
 use Rattle.words.specs.Lists.{splice}
 use Rattle.words.specs.Refusal.{number_of}
 use Rattle.words.specs.declared.Refusal.{Refusal}
 use Rattle.words.specs.declared.Refusal.TheVariants.{ClockBack}
-use Rattle.words.proofs.Tables.{get_d_any, none-held}
+use Rattle.words.proofs.Tables.{clash, get_d_any, none-held}
 use Rattle.channel.specs.Settings.{SettledGives, lane_len_of, stores_hold_of}
 use Rattle.channel.specs.declared.Settings.{Settings}
 use Rattle.channel.specs.declared.Settled.{Settled}
 use Rattle.channel.proofs.Good.{lane-within}
 use Rattle.slice_constructor.specs.declared.SliceConstructor.{SliceConstructor}
-use Rattle.slice_constructor.specs.declared.Collected.{Collected}
-use Rattle.slice_constructor.specs.declared.Collect.TheVariants as collect
 use Rattle.slice_constructor.specs.Collect as c
 use Rattle.slice_constructor.proofs.Valid as cv
 use Rattle.slice_constructor.proofs.Part.{piece-refused, piece-good, taken-now, store-back}
-use Rattle.receive_unreliable.specs.Receive.{new_of, MadeGives, constructor_at, Place, at-cell, at-lane, no_place, next_place, Outcome, refused, arrival_of, MessageSpot, cell, nowhere, message_spot, with_message_of, MessageGives, SliceSpot, opened, fresh, nothing, lane_spot, piece_refusal, slice_spot, judged, with_piece, SliceGives, walk_state, walk_count, at_time, discard_answer, discard_state, DiscardGives, Waiting, message, refusing, shown_at, look_of, look_at, part_at, without_cell, without_lane, TakeGives, Valid}
-use Rattle.receive_unreliable.specs.Steps.{held_of, told, message_to, slice_place_of, slice_to, Fits}
+use Rattle.receive_unreliable.specs.Receive.{new_of, MadeGives, constructor_at, Place, at-cell, at-lane, no_place, next_place, Outcome, refused, arrival_of, MessageSpot, cell, message_spot, with_message_of, MessageGives, SliceSpot, opened, fresh, nothing, lane_spot, piece_refusal, slice_spot, judged, with_piece, SliceGives, walk_state, walk_count, at_time, discard_answer, discard_state, DiscardGives, Waiting, message, none-waiting, refusing, shown_at, look_of, look_at, without_cell, without_lane, TakeGives, Valid}
+use Rattle.receive_unreliable.specs.Steps.{held_of, told, message_to, slice_place_of, lane_for_of, slice_to, Fits}
 use Rattle.receive_unreliable.specs.declared.ReceiveChannelUnreliable.{ReceiveChannelUnreliable}
 use Rattle.receive_unreliable.specs.declared.Arrival.{Arrival}
 use Rattle.receive_unreliable.specs.declared.Arrival.TheVariants as arrival
-use Rattle.receive_unreliable.specs.declared.SlicePlace.{SlicePlace}
-use Rattle.receive_unreliable.specs.declared.Discard.TheVariants as discard
-use Rattle.receive_unreliable.specs.declared.Store.{Store}
-use Rattle.receive_unreliable.specs.declared.Store.TheVariants.{Small, Lanes}
-use Rattle.receive_unreliable.specs.declared.Held.TheVariants as held
-use Rattle.receive_unreliable.specs.declared.Look.{Look}
-use Rattle.receive_unreliable.specs.declared.Look.TheVariants as look
-use Rattle.receive_unreliable.proofs.Valid.{new-valid, message-valid, without-cell-valid, without-lane-valid, time-valid, piece-valid}
+use Rattle.channel.specs.Place.{place_for}
+use Rattle.channel.specs.declared.Opened.{Opened}
+use Rattle.channel.specs.declared.SlicePlace.{SlicePlace}
+use Rattle.channel.specs.declared.Store.{Store}
+use Rattle.channel.specs.declared.Store.TheVariants.{Small, Lanes}
+use Rattle.receive_unreliable.specs.declared.Message.{Message}
+use Rattle.receive_unreliable.proofs.Valid.{cell-used, lane-used, new-valid, message-valid, without-cell-valid, without-lane-valid, time-valid, piece-valid}
 use Rattle.receive_unreliable.proofs.Spots.{Lies, cell_lies, lane_lies, spot-cell, Entered, open-fits, fresh-fits}
 use Rattle.receive_unreliable.proofs.Walk.{walk-valid}
 
@@ -47,29 +45,29 @@ made s d t g et = record { number = g.number; state = et ∙ ap new_of g.setting
 
 -- ---- what a place says
 
-not_taken : {A : Type 0} (f : Outcome → A) (x : A) (a : Arrival) → (a ≡ arrival.Taken → ⊥) → told f x (arrival_of a) ≡ f (arrival_of a)
-not_taken f x arrival.Taken k = absurd (k refl)
-not_taken f x arrival.Dropped k = refl
-not_taken f x (arrival.Refused e) k = refl
+not_taken : {A : Type 0} (f : Outcome → A) (x : A) (a : Result Arrival Refusal) → (a ≡ (Ok arrival.Taken) → ⊥) → told f x (arrival_of a) ≡ f (arrival_of a)
+not_taken f x (Ok arrival.Taken) k = absurd (k refl)
+not_taken f x (Ok arrival.Dropped) k = refl
+not_taken f x (Err e) k = refl
 
-pub cell-told : (i : ℕ) (a : Arrival) (spot : MessageSpot) → message_to i a ≡ spot → a ≡ arrival.Taken → spot ≡ cell i
+pub cell-told : (i : ℕ) (a : Result Arrival Refusal) (spot : MessageSpot) → message_to i a ≡ spot → a ≡ (Ok arrival.Taken) → spot ≡ cell i
 cell-told i a spot e h = sym e ∙ ap (message_to i) h
 
-pub lane-told : (p : SlicePlace) (lane spot : SliceSpot) (a : Arrival) → slice_place_of p ≡ lane → slice_to lane a ≡ spot → a ≡ arrival.Taken → spot ≡ slice_place_of p
-lane-told p lane spot a e o h = sym o ∙ ap (slice_to lane) h ∙ sym e
+-- the lane for a piece, by where its message is open
+place-lane : (o : Option Opened) (i : ℕ) → slice_place_of (place_for o i) ≡ lane_for_of o i
+place-lane (Some o) i = refl
+place-lane None i = refl
+
+pub lane-told : (o : Option Opened) (i : ℕ) (p : SlicePlace) (spot : SliceSpot) (a : Result Arrival Refusal)
+    → p ≡ place_for o i → slice_to (lane_for_of o i) a ≡ spot → a ≡ Ok arrival.Taken → spot ≡ slice_place_of p
+lane-told o i p spot a ep e t = sym e ∙ ap (slice_to (lane_for_of o i)) t ∙ sym (place-lane o i) ∙ sym (ap slice_place_of ep)
 
 -- ---- a small message
 
 module _ (s : ReceiveChannelUnreliable) (v : Valid s) (bs small lane : List ℕ) where
-  pub message-left : (i : ℕ) (a : Arrival) → message_to i a ≡ message_spot s (length bs) (length small) (length lane)
-      → (a ≡ arrival.Taken → ⊥) → MessageGives s bs small lane small (record { answer = a; state = s })
-  message-left i a e k =
-      let n = sym e ∙ not_taken nowhere (cell i) a k in
-      record { answer = rw n; state = rw n; bytes = rw n; valid = v }
-
   pub message-taken : (i : ℕ) (small' : List ℕ) (t : ReceiveChannelUnreliable) → message_spot s (length bs) (length small) (length lane) ≡ cell i
       → small' ≡ splice (i * SLICE_SIZE) bs small → t ≡ with_message_of s i (length bs)
-      → MessageGives s bs small lane small' (record { answer = arrival.Taken; state = t })
+      → MessageGives s bs small lane small' (record { answer = (Ok arrival.Taken); state = t })
   message-taken i small' t e eb et =
       record {
         answer = rw e;
@@ -94,8 +92,8 @@ fits-taken s l k t f i n e =
     }
 
 module _ (s : ReceiveChannelUnreliable) (v : Valid s) (id num i : ℕ) (bs : List ℕ) (t : ℕ) (small lane : List ℕ) where
-  pub slice-left : (x : SliceSpot) (a : Arrival) → slice_to x a ≡ lane_spot s id num t (length small) (length lane)
-      → (a ≡ arrival.Taken → ⊥) → SliceGives s id num i bs t small lane lane (record { answer = a; state = s })
+  pub slice-left : (x : SliceSpot) (a : Result Arrival Refusal) → slice_to x a ≡ lane_spot s id num t (length small) (length lane)
+      → (a ≡ (Ok arrival.Taken) → ⊥) → SliceGives s id num i bs t small lane lane (record { answer = a; state = s })
   unfolding slice_spot
   slice-left x a h k =
       let e = sym h ∙ not_taken nothing x a k in
@@ -119,7 +117,7 @@ module _ (s : ReceiveChannelUnreliable) (v : Valid s) (id num i : ℕ) (bs : Lis
       → slice_spot s id num i (length bs) t (length small) (length lane) ≡ pick b (fresh l) (opened l) → (u : ReceiveChannelUnreliable) → Valid u
       → u ≡ with_piece s l (c.taken k i (length bs)) t → (lane' : List ℕ)
       → lane' ≡ pick (get_or k.received i false) lane (splice (l * lane_len_of s.settings + i * SLICE_SIZE) bs lane)
-      → SliceGives s id num i bs t small lane lane' (record { answer = arrival.Taken; state = u })
+      → SliceGives s id num i bs t small lane lane' (record { answer = (Ok arrival.Taken); state = u })
   unfolding c.blank_of
   good-in-lane l true k ek e u w eu lane' eb = record { answer = rw e; state = rw e (rw ek at eu); bytes = rw e (rw (ek, none-held PIECES i) at eb); valid = w }
   good-in-lane l false k ek e u w eu lane' eb = record { answer = rw e; state = rw e (rw ek at eu); bytes = rw e (rw ek at eb); valid = w }
@@ -143,17 +141,21 @@ module _ {s : ReceiveChannelUnreliable} {id num i : ℕ} {bs : List ℕ} {t : �
   pub within : l * lane_len_of s.settings + lane_len_of s.settings ≤ length lane
   within = omega (arith, lane-within s.settings l lane_inside, fits.0.lane_room)
 
+  -- a constructor of its own may be made
+  pub starts : (id < LIMIT) × (num ≤ PIECES)
+  starts = let e = fits.0 in (e.below, omega (arith, e.most, x.valid.settings.pieces-most))
+
   -- the constructor that the code has, from what is stored there
   module _ (d k : SliceConstructor) (ek : k ≡ c.start_of (get_or s.constructors l d) b id num) where
     started : k ≡ c.start_of (constructor_at s l) b id num
     started =
         ek ∙ ap (λ (y : SliceConstructor). c.start_of y b id num) (get_d_any s.constructors l d (c.blank_of 0 0) (let low = lane_low in omega (arith, x.valid.constructors-long)))
 
-    pub start_fits : Fits s l k t
+    start_fits : Fits s l k t
     start_fits = rw started fits.1
 
     -- m bytes are lent, and come back
-    module _ (m : ℕ) (em : m ≡ lane_len_of s.settings) (part : List ℕ) (r : Collected)
+    module _ (m : ℕ) (em : m ≡ lane_len_of s.settings) (part : List ℕ) (r : c.Collected)
         (g : c.CollectGives k i bs (take m (drop (l * lane_len_of s.settings) lane)) part r) where
       abbrev back : List ℕ
       back = take (l * lane_len_of s.settings) lane ++ (part ++ drop m (drop (l * lane_len_of s.settings) lane))
@@ -167,14 +169,14 @@ module _ {s : ReceiveChannelUnreliable} {id num i : ℕ} {bs : List ℕ} {t : �
       stored : back ≡ pick (eqb (piece_refusal s k i (length bs)) 0) (pick (get_or k.received i false) lane (splice (l * lane_len_of s.settings + i * SLICE_SIZE) bs lane)) lane
       stored = rw told-so at (store-back k i bs lane (l * lane_len_of s.settings) m room part r g)
 
-      pub slice-refused : (e : Refusal) → r.answer ≡ collect.Refused e → SliceGives s id num i bs t small lane back (record { answer = arrival.Refused e; state = s })
+      pub slice-refused : (e : Refusal) → r.answer ≡ Err e → SliceGives s id num i bs t small lane back (record { answer = Err e; state = s })
       slice-refused e he =
           let w = rw told-so at (piece-refused k i bs lane (l * lane_len_of s.settings) m room part r g e he) in
           let spot : slice_spot s id num i (length bs) t (length small) (length lane) ≡ nothing (refused (number_of e)) =
           lane-spot s x.valid id num i bs t small lane l b x.spot ∙ rw (← started, w.0, w.1) in
           record { answer = rw spot; state = rw spot; bytes = rw spot (rw w.0 at stored); valid = x.valid }
 
-      module _ (w : (e : Refusal) → r.answer ≡ collect.Refused e → ⊥) where
+      module _ (w : (e : Refusal) → r.answer ≡ Err e → ⊥) where
         fine : eqb (piece_refusal s k i (length bs)) 0 ≡ true
         fine = rw told-so at (piece-good k i bs lane (l * lane_len_of s.settings) m room part r g w)
 
@@ -184,7 +186,7 @@ module _ {s : ReceiveChannelUnreliable} {id num i : ℕ} {bs : List ℕ} {t : �
         pub taken-fits : Fits s l r.state t
         taken-fits = rw now-taken (fits-taken s l k t start_fits i (length bs) fine)
 
-        pub slice_taken : (u : ReceiveChannelUnreliable) → u ≡ with_piece s l r.state t → SliceGives s id num i bs t small lane back (record { answer = arrival.Taken; state = u })
+        pub slice_taken : (u : ReceiveChannelUnreliable) → u ≡ with_piece s l r.state t → SliceGives s id num i bs t small lane back (record { answer = (Ok arrival.Taken); state = u })
         slice_taken u eu =
             let spot : slice_spot s id num i (length bs) t (length small) (length lane) ≡ pick b (fresh l) (opened l) =
             lane-spot s x.valid id num i bs t small lane l b x.spot ∙ rw (← started, fine) in
@@ -194,12 +196,12 @@ module _ {s : ReceiveChannelUnreliable} {id num i : ℕ} {bs : List ℕ} {t : �
 -- ---- a discarding
 
 module _ (s : ReceiveChannelUnreliable) (v : Valid s) (t : ℕ) where
-  pub discard-refused : t < s.latest → DiscardGives s t (record { answer = discard.Refused ClockBack; state = s })
+  pub discard-refused : t < s.latest → DiscardGives s t (record { answer = Err ClockBack; state = s })
   unfolding discard_answer discard_state
   discard-refused h = record { answer = rw (lt-ltb _ _ h); state = rw (lt-ltb _ _ h); valid = v }
 
   pub discard-done : s.latest ≤ t → (u : ReceiveChannelUnreliable) (n : ℕ) → u ≡ walk_state LANES t (at_time s t) → n ≡ walk_count LANES t (at_time s t)
-      → DiscardGives s t (record { answer = discard.Discarded n; state = u })
+      → DiscardGives s t (record { answer = Ok n; state = u })
   unfolding discard_answer discard_state
   discard-done h u n eu en =
       record {
@@ -209,6 +211,30 @@ module _ (s : ReceiveChannelUnreliable) (v : Valid s) (t : ℕ) where
       }
 
 -- ---- a look and a take
+
+-- how long the message is that is shown of a place
+abbrev len_at : ReceiveChannelUnreliable → Place → ℕ
+len_at s (at-cell i) = get_or s.cell_lens i 0
+len_at s (at-lane l) = get_or s.lane_lens l 0
+len_at s no_place = 0
+
+len_in : Waiting → ℕ
+len_in (message store place len) = len
+len_in none-waiting = 0
+len_in (refusing e) = 0
+
+pub shown-len : (s : ReceiveChannelUnreliable) (m : Message) (p : Place) → look_of (Ok (Some m)) ≡ shown_at s p → m.len ≡ len_at s p
+unfolding len_in
+shown-len s m (at-cell i) e = ap len_in e
+shown-len s m (at-lane l) e = ap len_in e
+shown-len s m no_place e = clash (cc)
+
+-- it is no more than the usage
+pub shown-used : (s : ReceiveChannelUnreliable) → Valid s → (m : Message) (x : Store) (i : ℕ) → held_of (Some (x, i)) ≡ next_place s
+    → look_of (Ok (Some m)) ≡ shown_at s (held_of (Some (x, i))) → m.len ≤ s.memory_usage_bytes
+unfolding Lies
+shown-used s v m Small i e h = rw (shown-len s m (at-cell i) h) (cell-used s v i (omega (arith, (cell_lies s v i e).2, v.settings.slots-most)))
+shown-used s v m Lanes l e h = rw (shown-len s m (at-lane l) h) (lane-used s v l (omega (arith, (lane_lies s v l e).2, v.settings.lanes-most)))
 
 module _ (s : ReceiveChannelUnreliable) where
   pub look-refused : (small lane : ℕ) → stores_hold_of s.settings small lane ≡ false → refusing 10 ≡ look_at s small lane
@@ -220,16 +246,16 @@ module _ (s : ReceiveChannelUnreliable) where
   look-shows small lane h p e = rw h (ap (shown_at s) e)
 
   -- where something is held something waits
-  pub some-waits : Valid s → (x : Store) (i : ℕ) → held_of (held.At x i) ≡ next_place s → 0 < s.count
+  pub some-waits : Valid s → (x : Store) (i : ℕ) → held_of (Some (x, i)) ≡ next_place s → 0 < s.count
   unfolding Lies
   some-waits v Small i e = (cell_lies s v i e).0
   some-waits v Lanes l e = (lane_lies s v l e).0
 
-  pub took-nothing : Valid s → no_place ≡ next_place s → TakeGives s (record { answer = look.Nothing; state = s })
+  pub took-nothing : Valid s → no_place ≡ next_place s → TakeGives s (record { answer = None; state = s })
   took-nothing v e = record { answer = rw (← e); state = rw (← e); valid = v }
 
-  module _ (v : Valid s) (a : Look) (t : ReceiveChannelUnreliable) where
-    pub took-small : (i : ℕ) → at-cell i ≡ next_place s → look_of a ≡ shown_at s (at-cell i) → t ≡ without_cell s i → TakeGives s (record { answer = a; state = t })
+  module _ (v : Valid s) (m : Message) (t : ReceiveChannelUnreliable) where
+    pub took-small : (i : ℕ) → at-cell i ≡ next_place s → look_of (Ok (Some m)) ≡ shown_at s (at-cell i) → t ≡ without_cell s i → TakeGives s (record { answer = Some m; state = t })
     unfolding Lies
     took-small i e ea et =
         let h = cell_lies s v i e in
@@ -239,7 +265,7 @@ module _ (s : ReceiveChannelUnreliable) where
           valid = rw et (without-cell-valid s v i (omega (arith, h.2, v.settings.slots-most)) h.0 h.1 h.3);
         }
 
-    pub took-lanes : (l : ℕ) → at-lane l ≡ next_place s → look_of a ≡ shown_at s (at-lane l) → t ≡ without_lane s l → TakeGives s (record { answer = a; state = t })
+    pub took-lanes : (l : ℕ) → at-lane l ≡ next_place s → look_of (Ok (Some m)) ≡ shown_at s (at-lane l) → t ≡ without_lane s l → TakeGives s (record { answer = Some m; state = t })
     unfolding Lies
     took-lanes l e ea et =
         let h = lane_lies s v l e in
@@ -248,20 +274,3 @@ module _ (s : ReceiveChannelUnreliable) where
           state = rw (← e) et;
           valid = rw et (without-lane-valid s v l (omega (arith, h.2, v.settings.lanes-most)) h.0 h.1 h.3 h.4);
         }
-
--- the part that a look shows
-
-module _ (w : Waiting) (small lane : List ℕ) where
-  pub no_part : (a : Look) → look_of a ≡ w → ((store : Store) (place len : ℕ) → a ≡ look.Message store place len → ⊥) → [] ≡ part_at w small lane
-  no_part a e k = empty a k ∙ ap (λ (x : Waiting). part_at x small lane) e where
-    empty : (a : Look) → ((store : Store) (place len : ℕ) → a ≡ look.Message store place len → ⊥) → [] ≡ part_at (look_of a) small lane
-    empty (look.Message store place len) k = absurd (k store place len refl)
-    empty look.Nothing k = refl
-    empty (look.Refused e) k = refl
-
-  module _ (place len : ℕ) where
-    pub small-part : w ≡ message Small place len → take len (drop place small) ≡ part_at w small lane
-    small-part e = rw e
-
-    pub lane-part : w ≡ message Lanes place len → take len (drop place lane) ≡ part_at w small lane
-    lane-part e = rw e

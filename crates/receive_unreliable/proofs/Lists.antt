@@ -1,6 +1,6 @@
 -- Laws of lists that know no size and no record. Assumes nothing.
 use Prim.Native.Nat.{ℕ, zero, suc, ◌+◌, ◌-◌, ◌≤◌, ◌<◌}
-use mathlib.Core.Path.{◌≡◌, refl, sym, ap, ◌∙◌}
+use mathlib.Core.Path.{◌≡◌, refl, sym, ◌∙◌}
 use mathlib.Core.List.{List, [], ◌∷◌, ◌++◌, map}
 use mathlib.Core.Bool.{Bool, true, false}
 use native.Mathlib.Nat.{not-suc-le-zero, le_of_suc-le-suc}
@@ -58,28 +58,13 @@ module _ {A : Type 0} (z : A) where
   pub length_moved : (q : List A) → 0 < length q → length (drop 1 q ++ z ∷ []) ≡ length q
   length_moved q h = length-append (drop 1 q) (z ∷ []) ∙ rw (length-drop 1 q) (omega arith)
 
-  -- a loop that moves them up: the first i are moved, the others not yet
+  -- the first i are moved up, the others not
   pub record MovedTo (q r : List A) (i : ℕ) : Type 0 where
     pub long : length r ≡ length q
     pub before : (k : ℕ) → k < i → get_or r k z ≡ get_or q (suc k) z
     pub after : (k : ℕ) → i ≤ k → get_or r k z ≡ get_or q k z
 
-  pub moved_none : (q : List A) → MovedTo q q 0
-  moved_none q = record { long = refl; before = λ k h. absurd (not-suc-le-zero h); after = λ k _. refl }
-
   module _ (q r : List A) (i : ℕ) (m : MovedTo q r i) where
-    pub moved_more : i < length q → MovedTo q (set r i (get_or r (i + 1) z)) (i + 1)
-    moved_more h =
-        let x : A = get_or r (i + 1) z in
-        record {
-          long = simp length-set m.long;
-          before = λ k b.
-              by_place i k
-              (λ e. rw e (get_or-set_same r i x z (omega (arith, m.long)) ∙ m.after (i + 1) (omega arith) ∙ ap (λ (j : ℕ). get_or q j z) (add-one i)))
-              (λ o. get_or-set_other r i k x z o ∙ m.before k (omega (arith, o)));
-          after = λ k b. get_or-set_other r i k x z (λ e. omega arith) ∙ m.after k (omega arith);
-        }
-
     -- with a blank after them, where the rest is blank already
     pub moved_all : i < length q → ((k : ℕ) → i + 1 ≤ k → get_or q k z ≡ z) → set r i z ≡ drop 1 q ++ z ∷ []
     moved_all h blank =

@@ -1,4 +1,5 @@
 -- What the place of a message, of a piece and of the next one out say of the state. Assumes nothing.
+use Rattle.std.specs.Prelude.{Option, Some, None}
 use Prim.Native.Nat.{ℕ, ◌+◌, ◌*◌, ◌≤◌, ◌<◌}
 use mathlib.Core.Path.{◌≡◌, refl, sym, ap, ◌∙◌, subst}
 use mathlib.Core.Bool.{Bool, true, false, not}
@@ -21,8 +22,8 @@ use Rattle.slice_constructor.proofs.Valid as cv
 use Rattle.receive_unreliable.specs.Receive.{lane_of, is_open_of, constructor_at, waiters, Place, at-cell, at-lane, no_place, place_of, next_place, refused, message_refusal, MessageSpot, cell, nowhere, message_spot, entry_refusal, SliceSpot, opened, fresh, nothing, open_lane, fresh_lane, lane_spot, Waiting, message, none-waiting, refusing, shown_at, look_at, Waits, Valid}
 use Rattle.receive_unreliable.specs.Steps.{opened_by, opened_in, Fits}
 use Rattle.receive_unreliable.specs.declared.ReceiveChannelUnreliable.{ReceiveChannelUnreliable}
-use Rattle.receive_unreliable.specs.declared.Store.TheVariants.{Small, Lanes}
-use Rattle.receive_unreliable.specs.declared.Opened.TheVariants as opened-at
+use Rattle.channel.specs.declared.Store.TheVariants.{Small, Lanes}
+use Rattle.channel.specs.declared.Opened.{Opened}
 use Rattle.receive_unreliable.proofs.Queue.{place-cell, place-lane, by_kind, queue-most}
 use Rattle.receive_unreliable.proofs.Valid.{CellSpot, lane-used, open-held}
 
@@ -153,20 +154,22 @@ entered s id num t small lane e =
 pub lane_here : (s : ReceiveChannelUnreliable) → Valid s → (id : ℕ) → lane_of s id < LANES → Here s.opens s.lane_ids id (lane_of s id)
 lane_here s v id low = found s.opens s.lane_ids id (v.opens-long ∙ sym v.lane-ids-long) (omega (arith, v.opens-long))
 
-at_open : (b : Bool) (m n l x : ℕ) → pick b (opened-at.At m n) opened-at.Nothing ≡ opened-at.At l x → (b ≡ true) × (m ≡ l) × (n ≡ x)
-at_open true m n l x e = (refl, cc, cc)
+at_open : (b : Bool) (m n l x : ℕ) → pick {A = Option Opened} b (Some (record { lane = m; charge = n })) None ≡ Some (record { lane = l; charge = x }) → (b ≡ true) × (m ≡ l) × (n ≡ x)
+at_open true m n l x e =
+    let o : ◌≡◌ {A = Opened} (record { lane = m; charge = n }) (record { lane = l; charge = x }) = cc in
+    (refl, ap (λ (p : Opened). p.lane) o, ap (λ (p : Opened). p.charge) o)
 at_open false m n l x e = clash (cc)
 
-at_none : (b : Bool) (m n : ℕ) → pick b (opened-at.At m n) opened-at.Nothing ≡ opened-at.Nothing → b ≡ false
+at_none : (b : Bool) (m n : ℕ) → pick {A = Option Opened} b (Some (record { lane = m; charge = n })) None ≡ None → b ≡ false
 at_none true m n e = clash (cc)
 at_none false m n e = refl
 
 module _ (s : ReceiveChannelUnreliable) (id : ℕ) where
-  pub in-open : (l n : ℕ) → opened_in s id ≡ opened-at.At l n → (is_open_of s id ≡ true) × (lane_of s id < LANES) × (lane_of s id ≡ l) × (get_or s.lane_lens (lane_of s id) 0 ≡ n)
+  pub in-open : (l n : ℕ) → opened_in s id ≡ Some (record { lane = l; charge = n }) → (is_open_of s id ≡ true) × (lane_of s id < LANES) × (lane_of s id ≡ l) × (get_or s.lane_lens (lane_of s id) 0 ≡ n)
   unfolding opened_by
   in-open l n e = let t = at_open (is_open_of s id) (lane_of s id) (get_or s.lane_lens (lane_of s id) 0) l n e in (t.0, ltb-true _ _ t.0, t.1, t.2)
 
-  pub in-none : opened_in s id ≡ opened-at.Nothing → is_open_of s id ≡ false
+  pub in-none : opened_in s id ≡ None → is_open_of s id ≡ false
   unfolding opened_by
   in-none e = at_none (is_open_of s id) (lane_of s id) (get_or s.lane_lens (lane_of s id) 0) e
 

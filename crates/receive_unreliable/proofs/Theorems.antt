@@ -1,5 +1,7 @@
 -- What follows from the promises: what the usage is, that a look and a take agree, that messages come out in order of completion, what a
 -- discarding leaves, that a refusal changes nothing and a repeat only its id's time, and that each call has one outcome only. Assumes nothing.
+use Rattle.words.specs.declared.Refusal.{Refusal}
+use Rattle.std.specs.Prelude.{Result, Ok, Err, Option, Some, None}
 use Prim.Native.Nat.{ℕ, ◌+◌, ◌-◌, ◌*◌, ◌≤◌, ◌<◌}
 use mathlib.Core.Path.{◌≡◌, refl, sym, ap, ◌∙◌}
 use mathlib.Core.Bool.{true, false}
@@ -17,27 +19,19 @@ use Rattle.words.proofs.Tables.{by-test, clash, pick-cases, total-below}
 use Rattle.channel.specs.Settings.{lane_len_of, stores_hold_of}
 use Rattle.channel.specs.Find.{held_at}
 use Rattle.channel.specs.declared.Settings.{Settings}
-use Rattle.channel.specs.declared.Setup.{Setup}
 use Rattle.channel.proofs.Unique.{one-setup}
 use Rattle.channel.proofs.Held.{Here}
 use Rattle.slice_constructor.specs.declared.SliceConstructor.{SliceConstructor}
 use Rattle.slice_constructor.specs.Collect as c
 use Rattle.slice_constructor.proofs.Valid as cv
 use Rattle.slice_constructor.proofs.Part.{repeat-good, repeat-bad, repeat-same}
-use Rattle.receive_unreliable.specs.Receive.{DISCARD_AFTER, new_of, lane_of, constructor_at, Place, at-cell, at-lane, no_place, next_place, Outcome, taken, dropped, refused, arrival_of, MessageSpot, cell, nowhere, message_spot, message_answer_of, message_state, message_bytes, SliceSpot, opened, fresh, nothing, lane_spot, piece_refusal, settled, open_lane, fresh_lane, entry_refusal, slice_spot, with_open, with_piece, slice_answer_of, slice_state, slice_bytes, lowest_id_of, goes_on_of, without_open, walk_count, at_time, Discarding, gone, kept, discard_of, discard_answer, discard_state, Waiting, message, none-waiting, refusing, shown_at, look_of, look_at, part_at, removed, MadeGives, MessageGives, SliceGives, DiscardGives, TakeGives, Valid}
+use Rattle.receive_unreliable.specs.Receive.{DISCARD_AFTER, new_of, lane_of, constructor_at, Place, at-cell, at-lane, no_place, next_place, Outcome, taken, dropped, refused, arrival_of, MessageSpot, cell, nowhere, message_spot, message_answer_of, message_state, message_bytes, SliceSpot, opened, fresh, nothing, lane_spot, piece_refusal, settled, open_lane, fresh_lane, entry_refusal, slice_spot, with_open, with_piece, slice_answer_of, slice_state, slice_bytes, lowest_id_of, goes_on_of, without_open, walk_count, at_time, Discarding, gone, kept, discard_of, discard_answer, discard_state, Waiting, message, none-waiting, refusing, shown_at, look_of, look_at, part_at, removed, Made, MadeGives, Arrived, MessageGives, SliceGives, Discarded, DiscardGives, Received, TakeGives, Valid}
 use Rattle.receive_unreliable.specs.Repeats.{Repeats, renewed}
 use Rattle.receive_unreliable.specs.Views.{cell_use, lane_use, messages, after_message_of, after_slice}
 use Rattle.receive_unreliable.specs.declared.ReceiveChannelUnreliable.{ReceiveChannelUnreliable}
-use Rattle.receive_unreliable.specs.declared.Made.{Made}
 use Rattle.receive_unreliable.specs.declared.Arrival.{Arrival}
 use Rattle.receive_unreliable.specs.declared.Arrival.TheVariants as arrival
-use Rattle.receive_unreliable.specs.declared.Arrived.{Arrived}
-use Rattle.receive_unreliable.specs.declared.Discard.{Discard}
-use Rattle.receive_unreliable.specs.declared.Discard.TheVariants as discard
-use Rattle.receive_unreliable.specs.declared.Discarded.{Discarded}
-use Rattle.receive_unreliable.specs.declared.Look.{Look}
-use Rattle.receive_unreliable.specs.declared.Look.TheVariants as look
-use Rattle.receive_unreliable.specs.declared.Received.{Received}
+use Rattle.receive_unreliable.specs.declared.Message.{Message}
 use Rattle.receive_unreliable.proofs.Spots.{Lies, lies, lane_here, spot-cell, open-fits, fresh-fits}
 use Rattle.receive_unreliable.proofs.Gives.{fits-taken}
 use Rattle.receive_unreliable.proofs.Valid.{lane-used, open-held, time-valid}
@@ -68,49 +62,49 @@ module _ (s : ReceiveChannelUnreliable) (v : Valid s) where
 
 -- ---- one outcome only
 
-abbrev arrival_from : Outcome → Arrival
-arrival_from taken = arrival.Taken
-arrival_from dropped = arrival.Dropped
-arrival_from (refused n) = arrival.Refused (refusal_of n)
+abbrev arrival_from : Outcome → Result Arrival Refusal
+arrival_from taken = (Ok arrival.Taken)
+arrival_from dropped = (Ok arrival.Dropped)
+arrival_from (refused n) = Err (refusal_of n)
 
-arrival-undone : (a : Arrival) → arrival_from (arrival_of a) ≡ a
-arrival-undone arrival.Taken = refl
-arrival-undone arrival.Dropped = refl
-arrival-undone (arrival.Refused e) = ap arrival.Refused (refusal-undone e)
+arrival-undone : (a : Result Arrival Refusal) → arrival_from (arrival_of a) ≡ a
+arrival-undone (Ok arrival.Taken) = refl
+arrival-undone (Ok arrival.Dropped) = refl
+arrival-undone (Err e) = ap Err (refusal-undone e)
 
-same-arrival : (a b : Arrival) → arrival_of a ≡ arrival_of b → a ≡ b
+same-arrival : (a b : Result Arrival Refusal) → arrival_of a ≡ arrival_of b → a ≡ b
 same-arrival = told-apart arrival_of arrival_from arrival-undone
 
-abbrev discard_from : Discarding → Discard
-discard_from (gone n) = discard.Discarded n
-discard_from (kept n) = discard.Refused (refusal_of n)
+abbrev discard_from : Discarding → Result ℕ Refusal
+discard_from (gone n) = Ok n
+discard_from (kept n) = Err (refusal_of n)
 
-discard-undone : (a : Discard) → discard_from (discard_of a) ≡ a
-discard-undone (discard.Discarded n) = refl
-discard-undone (discard.Refused e) = ap discard.Refused (refusal-undone e)
+discard-undone : (a : Result ℕ Refusal) → discard_from (discard_of a) ≡ a
+discard-undone (Ok n) = refl
+discard-undone (Err e) = ap Err (refusal-undone e)
 
-abbrev look_from : Waiting → Look
-look_from (message store place len) = look.Message store place len
-look_from none-waiting = look.Nothing
-look_from (refusing n) = look.Refused (refusal_of n)
+abbrev look_from : Waiting → Result (Option Message) Refusal
+look_from (message store place len) = Ok (Some (record { store = store; place = place; len = len }))
+look_from none-waiting = (Ok None)
+look_from (refusing n) = Err (refusal_of n)
 
-look-undone : (a : Look) → look_from (look_of a) ≡ a
-look-undone (look.Message store place len) = refl
-look-undone look.Nothing = refl
-look-undone (look.Refused e) = ap look.Refused (refusal-undone e)
+look-undone : (a : Result (Option Message) Refusal) → look_from (look_of a) ≡ a
+look-undone (Ok (Some m)) = refl
+look-undone (Ok None) = refl
+look-undone (Err e) = ap Err (refusal-undone e)
 
-same-look : (a b : Look) → look_of a ≡ look_of b → a ≡ b
+same-look : (a b : Result (Option Message) Refusal) → look_of a ≡ look_of b → a ≡ b
 same-look = told-apart look_of look_from look-undone
 
 pub one-made : (s : Settings) (r q : Made) → MadeGives s r → MadeGives s q → r ≡ q
 one-made s r q x y =
     let a : r.answer ≡ q.answer = one-setup r.answer q.answer (x.number ∙ sym y.number) in
     let t : r.state ≡ q.state = x.state ∙ sym y.state in
-    ap (λ (b : Setup). record { answer = b; state = r.state }) a ∙ ap (λ (u : ReceiveChannelUnreliable). record { answer = q.answer; state = u }) t
+    ap (λ (b : Result (Unit {0}) Refusal). record { answer = b; state = r.state }) a ∙ ap (λ (u : ReceiveChannelUnreliable). record { answer = q.answer; state = u }) t
 
 one-arrived : (r q : Arrived) → arrival_of r.answer ≡ arrival_of q.answer → r.state ≡ q.state → r ≡ q
 one-arrived r q e t =
-    ap (λ (b : Arrival). record { answer = b; state = r.state }) (same-arrival r.answer q.answer e)
+    ap (λ (b : Result Arrival Refusal). record { answer = b; state = r.state }) (same-arrival r.answer q.answer e)
     ∙ ap (λ (u : ReceiveChannelUnreliable). record { answer = q.answer; state = u }) t
 
 pub one-message : (s : ReceiveChannelUnreliable) (bs small lane small₁ small₂ : List ℕ) (r q : Arrived)
@@ -125,10 +119,10 @@ one-slice s id num i bs t small lane lane₁ lane₂ r q x y =
 
 pub one-discard : (s : ReceiveChannelUnreliable) (t : ℕ) (r q : Discarded) → DiscardGives s t r → DiscardGives s t q → r ≡ q
 one-discard s t r q x y =
-    ap (λ (b : Discard). record { answer = b; state = r.state }) (told-apart discard_of discard_from discard-undone r.answer q.answer (x.answer ∙ sym y.answer))
+    ap (λ (b : Result ℕ Refusal). record { answer = b; state = r.state }) (told-apart discard_of discard_from discard-undone r.answer q.answer (x.answer ∙ sym y.answer))
     ∙ ap (λ (u : ReceiveChannelUnreliable). record { answer = q.answer; state = u }) (x.state ∙ sym y.state)
 
-pub one-look : (s : ReceiveChannelUnreliable) (small lane : ℕ) (a b : Look) → look_of a ≡ look_at s small lane → look_of b ≡ look_at s small lane → a ≡ b
+pub one-look : (s : ReceiveChannelUnreliable) (small lane : ℕ) (a b : Result (Option Message) Refusal) → look_of a ≡ look_at s small lane → look_of b ≡ look_at s small lane → a ≡ b
 one-look s small lane a b x y = same-look a b (x ∙ sym y)
 
 pub one-part : (s : ReceiveChannelUnreliable) (small lane a b : List ℕ)
@@ -140,7 +134,9 @@ one-usage s a b x y = x ∙ sym y
 
 pub one-take : (s : ReceiveChannelUnreliable) (r q : Received) → TakeGives s r → TakeGives s q → r ≡ q
 one-take s r q x y =
-    ap (λ (b : Look). record { answer = b; state = r.state }) (same-look r.answer q.answer (x.answer ∙ sym y.answer))
+    let a : ◌≡◌ {A = Result (Option Message) Refusal} (Ok r.answer) (Ok q.answer) = same-look (Ok r.answer) (Ok q.answer) (x.answer ∙ sym y.answer) in
+    let same : r.answer ≡ q.answer = cc in
+    ap (λ (b : Option Message). record { answer = b; state = r.state }) same
     ∙ ap (λ (u : ReceiveChannelUnreliable). record { answer = q.answer; state = u }) (x.state ∙ sym y.state)
 
 -- ---- a refusal, Dropped and Nothing change nothing, the latest accepted time included
@@ -182,18 +178,18 @@ module _ (s : ReceiveChannelUnreliable) where
   nothing-removed (at-lane l) e = clash (cc)
   nothing-removed no_place e = refl
 
-  pub nothing-taken : (r : Received) → TakeGives s r → look_of r.answer ≡ none-waiting → r.state ≡ s
+  pub nothing-taken : (r : Received) → TakeGives s r → look_of (Ok r.answer) ≡ none-waiting → r.state ≡ s
   nothing-taken r g e = g.state ∙ nothing-removed (next_place s) (sym g.answer ∙ e)
 
   -- ---- with stores that hold, a look gives what a take hands out, and `message` is that part
 
-  pub look-is-take : (small lane : List ℕ) (a : Look) (part : List ℕ) (r : Received) → stores_hold_of s.settings (length small) (length lane) ≡ true
+  pub look-is-take : (small lane : List ℕ) (a : Result (Option Message) Refusal) (part : List ℕ) (r : Received) → stores_hold_of s.settings (length small) (length lane) ≡ true
       → look_of a ≡ look_at s (length small) (length lane) → part ≡ part_at (look_at s (length small) (length lane)) small lane → TakeGives s r
-      → (a ≡ r.answer) × (part ≡ part_at (look_of r.answer) small lane)
+      → (a ≡ Ok r.answer) × (part ≡ part_at (look_of (Ok r.answer)) small lane)
   unfolding look_at
   look-is-take small lane a part r h ea ep g =
-      let e : look_at s (length small) (length lane) ≡ look_of r.answer = rw h (sym g.answer) in
-      (same-look a r.answer (ea ∙ e), ep ∙ ap (λ (w : Waiting). part_at w small lane) e)
+      let e : look_at s (length small) (length lane) ≡ look_of (Ok r.answer) = rw h (sym g.answer) in
+      (same-look a (Ok r.answer) (ea ∙ e), ep ∙ ap (λ (w : Waiting). part_at w small lane) e)
 
 -- ---- messages come out in order of completion
 
@@ -216,8 +212,8 @@ module _ (s : ReceiveChannelUnreliable) (v : Valid s) where
   first-removed small lane (at-lane l) h n = lane_first s v small lane l h.0 h.1
   first-removed small lane no_place h n = absurd (n refl)
 
-  pub take-in-order : (small lane : List ℕ) (r : Received) → TakeGives s r → (look_of r.answer ≡ none-waiting → ⊥)
-      → messages s small lane ≡ part_at (look_of r.answer) small lane ∷ messages r.state small lane
+  pub take-in-order : (small lane : List ℕ) (r : Received) → TakeGives s r → (look_of (Ok r.answer) ≡ none-waiting → ⊥)
+      → messages s small lane ≡ part_at (look_of (Ok r.answer)) small lane ∷ messages r.state small lane
   take-in-order small lane r g n = rw (g.state, g.answer) (first-removed small lane (next_place s) (lies s v) (λ e. n (g.answer ∙ e)))
 
   -- where a take hands out nothing, none wait
@@ -227,7 +223,7 @@ module _ (s : ReceiveChannelUnreliable) (v : Valid s) where
   none-wait small lane (at-lane l) h e = clash (cc)
   none-wait small lane no_place h e = rw h
 
-  pub nothing-waits : (small lane : List ℕ) (r : Received) → TakeGives s r → look_of r.answer ≡ none-waiting → messages s small lane ≡ []
+  pub nothing-waits : (small lane : List ℕ) (r : Received) → TakeGives s r → look_of (Ok r.answer) ≡ none-waiting → messages s small lane ≡ []
   nothing-waits small lane r g e = none-wait small lane (next_place s) (lies s v) (sym g.answer ∙ e)
 
   -- a discarding leaves them as they are
@@ -360,7 +356,7 @@ module _ (s : ReceiveChannelUnreliable) (v : Valid s) (id num i : ℕ) (bs : Lis
       )
 
   -- of the right size
-  pub repeat-accepted : c.sized (constructor_at s (lane_of s id)) i (length bs) ≡ true → (r.answer ≡ arrival.Taken) × (r.state ≡ renewed s (lane_of s id) t) × (lane' ≡ lane)
+  pub repeat-accepted : c.sized (constructor_at s (lane_of s id)) i (length bs) ≡ true → (r.answer ≡ (Ok arrival.Taken)) × (r.state ≡ renewed s (lane_of s id) t) × (lane' ≡ lane)
   unfolding slice_spot
   repeat-accepted size =
       let l : ℕ = lane_of s id in
@@ -368,7 +364,7 @@ module _ (s : ReceiveChannelUnreliable) (v : Valid s) (id num i : ℕ) (bs : Lis
       let e : slice_spot s id num i (length bs) t (length small) (length lane) ≡ opened l =
       ap (settled s id num i (length bs)) spot ∙ rw (repeat-good (constructor_at s l) f i (length bs) (lane_len_of s.settings) room p.here size) in
       let unmoved : c.taken (constructor_at s l) i (length bs) ≡ constructor_at s l = repeat-same (constructor_at s l) f i (length bs) (lane_len_of s.settings) room p.here in (
-        same-arrival r.answer arrival.Taken (g.answer ∙ ap slice_answer_of e),
+        same-arrival r.answer (Ok arrival.Taken) (g.answer ∙ ap slice_answer_of e),
         rw e at g.state ∙ ap (λ (k : SliceConstructor). with_piece s l k t) unmoved ∙ time-alone,
         rw (e, p.here) at g.bytes,
       )

@@ -1,11 +1,12 @@
 -- The walk of a discarding, turn by turn, and that it keeps the receiver valid. Assumes nothing.
+use Rattle.std.specs.Prelude.{Some, None}
 use Prim.Native.Nat.{ℕ, zero, suc, ◌+◌, ◌-◌, ◌≤◌, ◌<◌}
 use mathlib.Core.Path.{◌≡◌, refl, sym, ◌∙◌}
 use mathlib.Core.Bool.{Bool, true, false}
 use mathlib.Core.List.{List}
 use native.Mathlib.Omega.{arith}
 use native.Mathlib.Numerals.{add-one}
-use borrow.Author.Tests.{ltb-true, lt-ltb, le-ltb, le-leb, lt-leb}
+use borrow.Author.Tests.{ltb-true, lt-ltb, le-ltb}
 use lib.Dec.{ltb}
 use lib.ListN.{length, get_or, drop, drop_of_length-le}
 use lib.Seq.{drop-cons}
@@ -14,7 +15,7 @@ use Rattle.words.specs.Choice.{pick}
 use Rattle.words.specs.Lists.{holds}
 use Rattle.words.proofs.Lists.{holds-le, holds-less}
 use Rattle.words.proofs.Tables.{pick-cases, by-test, clash}
-use Rattle.receive_unreliable.specs.Receive.{DISCARD_AFTER, lowest_id_of, lowest_open, is_old, goes_on_of, without_open, walk_state, walk_count, at_time, Valid}
+use Rattle.receive_unreliable.specs.Receive.{lowest_id_of, lowest_open, is_old, goes_on_of, without_open, walk_state, walk_count, at_time, Valid}
 use Rattle.receive_unreliable.specs.declared.ReceiveChannelUnreliable.{ReceiveChannelUnreliable}
 use Rattle.receive_unreliable.proofs.Valid.{without-open-valid, time-valid}
 use Rattle.receive_unreliable.proofs.Spots.{lane_here}
@@ -70,15 +71,6 @@ module _ (s : ReceiveChannelUnreliable) (t : ℕ) where
     count-off zero = refl
     count-off (suc n) = rw off
 
-  pub none_open : LANES ≤ lowest_open s → goes_on_of s t ≡ false
-  none_open h = rw (le-ltb _ _ h)
-
-  pub too-young : lowest_open s < LANES → t - get_or s.last_received (lowest_open s) 0 < DISCARD_AFTER → goes_on_of s t ≡ false
-  too-young h y = rw (lt-ltb _ _ h, lt-leb _ _ y)
-
-  pub old-enough : lowest_open s < LANES → DISCARD_AFTER ≤ t - get_or s.last_received (lowest_open s) 0 → goes_on_of s t ≡ true
-  old-enough h y = rw (lt-ltb _ _ h, le-leb _ _ y)
-
   pub lowest-here : goes_on_of s t ≡ true → lowest_open s < LANES
   lowest-here on = ltb-true _ _ (both (ltb (lowest_open s) LANES) (is_old s t (lowest_open s)) on).0
 
@@ -97,6 +89,15 @@ walk-valid (suc n) t s v =
     walk-valid n t (without_open s (lowest_open s)) (without-open-valid s v (lowest_open s) low (lowest-open s v low)))
     (λ _. v)
 
+-- what a turn finds: the lowest open id, where it is to be dropped
+pub none-old : (b : Bool) (l : ℕ) → pick b (Some l) None ≡ None → b ≡ false
+none-old true l e = clash (cc)
+none-old false l e = refl
+
+pub some-old : (b : Bool) (l i : ℕ) → pick b (Some l) None ≡ Some i → (b ≡ true) × (l ≡ i)
+some-old true l i e = (refl, cc)
+some-old false l i e = clash (cc)
+
 -- ---- the loop's invariant: the walk from s on, with d dropped before it, gives what the whole from s₀ gives
 
 pub record Walked (s₀ : ReceiveChannelUnreliable) (t : ℕ) (s : ReceiveChannelUnreliable) (d : ℕ) : Type 0 where
@@ -110,38 +111,24 @@ pub walked_none : (s : ReceiveChannelUnreliable) (t : ℕ) → Valid s → s.lat
 walked_none s t v e = record { few = omega arith; valid = v; clock = e; state = refl; count = omega arith }
 
 module _ (s₀ : ReceiveChannelUnreliable) (t : ℕ) (s : ReceiveChannelUnreliable) (d : ℕ) (w : Walked s₀ t s d) where
-  -- no open lane was touched after now
-  pub lowest-seen : (l : ℕ) → l ≡ lowest_open s → l < LANES → get_or s.last_received l 0 ≤ t
-  lowest-seen l el low =
-      let lowest : lowest_open s < LANES = rw (← el) low in
-      rw el (omega (arith, ((w.valid.lane (lowest_open s) lowest).opened (lowest-open s w.valid lowest)).seen, w.clock))
-
-  walked-off : goes_on_of s t ≡ false → (s ≡ walk_state LANES t s₀) × (d ≡ walk_count LANES t s₀)
+  -- or it stops
+  pub walked-off : goes_on_of s t ≡ false → (s ≡ walk_state LANES t s₀) × (d ≡ walk_count LANES t s₀)
   walked-off off = (sym (state-off s t off (LANES - d)) ∙ w.state, omega (arith, w.count, count-off s t off (LANES - d)))
 
-  module _ (l : ℕ) (el : l ≡ lowest_open s) where
-    -- the lowest open id is dropped, and the walk goes on
-    pub walked_more : d < LANES → l < LANES → DISCARD_AFTER ≤ t - get_or s.last_received l 0 → (u : ReceiveChannelUnreliable) → u ≡ without_open s l → Walked s₀ t u (d + 1)
-    unfolding without_open
-    walked_more h low old u eu =
-        let lowest : lowest_open s < LANES = rw (← el) low in
-        let on = old-enough s t lowest (rw (← el) old) in
-        let turn : LANES - d ≡ suc (LANES - (d + 1)) = omega arith in
-        rw (eu, el)
-        record {
-          few = omega arith;
-          valid = without-open-valid s w.valid (lowest_open s) lowest (lowest-open s w.valid lowest);
-          clock = w.clock;
-          state = sym (state-on s t (LANES - (d + 1)) on) ∙ rw turn at w.state;
-          count = omega (arith, rw turn at w.count, count-on s t (LANES - (d + 1)) on);
-        }
-
-    -- or it stops: none is open, or the lowest is younger
-    pub walked-none-left : LANES ≤ l → (s ≡ walk_state LANES t s₀) × (d ≡ walk_count LANES t s₀)
-    walked-none-left h = walked-off (none_open s t (rw (← el) h))
-
-    pub walked-young : l < LANES → t - get_or s.last_received l 0 < DISCARD_AFTER → (s ≡ walk_state LANES t s₀) × (d ≡ walk_count LANES t s₀)
-    walked-young low y = walked-off (too-young s t (rw (← el) low) (rw (← el) y))
+  -- the lowest open id is dropped, and the walk goes on
+  pub walked_more : d < LANES → goes_on_of s t ≡ true → (u : ReceiveChannelUnreliable) → u ≡ without_open s (lowest_open s) → Walked s₀ t u (d + 1)
+  unfolding without_open
+  walked_more h on u eu =
+      let lowest : lowest_open s < LANES = lowest-here s t on in
+      let turn : LANES - d ≡ suc (LANES - (d + 1)) = omega arith in
+      rw eu
+      record {
+        few = omega arith;
+        valid = without-open-valid s w.valid (lowest_open s) lowest (lowest-open s w.valid lowest);
+        clock = w.clock;
+        state = sym (state-on s t (LANES - (d + 1)) on) ∙ rw turn at w.state;
+        count = omega (arith, rw turn at w.count, count-on s t (LANES - (d + 1)) on);
+      }
 
   -- or as many were dropped as there are lanes
   pub walked_all : LANES ≤ d → (s ≡ walk_state LANES t s₀) × (d ≡ walk_count LANES t s₀)

@@ -1,3 +1,5 @@
+pub mod State
+pub mod Fields
 pub mod Receive
 pub mod Repeats
 pub mod Steps

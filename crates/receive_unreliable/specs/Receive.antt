@@ -1,29 +1,24 @@
 -- The receiving end of an unreliable channel. Document 01, part 5, "Sizes and settings", "Numbers a caller may see", "Unreliable", and
 -- "Ordered receiver" for charges, pieces and repeats. Assumes nothing.
-use Rattle.std.specs.Prelude.{ℕ, zero, suc, ◌+◌, ◌-◌, ◌*◌, ◌≤◌, ◌<◌, ◌≡◌, Bool, true, false, not, List, [], ◌∷◌, ◌++◌, length, get_or, set, take, drop, replicate, ltb, leb, eqb}
+use Rattle.std.specs.Prelude.{ℕ, zero, suc, ◌+◌, ◌-◌, ◌*◌, ◌≤◌, ◌<◌, ◌≡◌, Bool, true, false, not, List, [], ◌∷◌, ◌++◌, length, get_or, set, take, drop, replicate, ltb, leb, eqb, Result, Ok, Err, Option, Some, None}
 use Rattle.words.specs.Sizes.{SLICE_SIZE, SLOTS, LANES, LIMIT}
 use Rattle.words.specs.Choice.{pick, refusal}
 use Rattle.words.specs.Lists.{splice, lowest_free_of, holds, total, All, Pairs}
 use Rattle.words.specs.Refusal.{number_of}
+use Rattle.words.specs.declared.Refusal.{Refusal}
+use Rattle.words.specs.declared.After.{After}
 use Rattle.channel.specs.Settings.{settings_refusal, setup_number, Good, least_settings, lane_len_of, stores_hold_of}
 use Rattle.channel.specs.Find.{held_at}
 use Rattle.channel.specs.declared.Settings.{Settings}
+use Rattle.channel.specs.declared.Store.{Store}
+use Rattle.channel.specs.declared.Store.TheVariants.{Small, Lanes}
 use Rattle.slice_constructor.specs.declared.SliceConstructor.{SliceConstructor}
 use Rattle.slice_constructor.specs.Collect as c
 pub use Rattle.slice_constructor.specs.Collect.{is_whole}
 use Rattle.receive_unreliable.specs.declared.ReceiveChannelUnreliable.{ReceiveChannelUnreliable}
-use Rattle.receive_unreliable.specs.declared.Made.{Made}
 use Rattle.receive_unreliable.specs.declared.Arrival.{Arrival}
 use Rattle.receive_unreliable.specs.declared.Arrival.TheVariants as arrival
-use Rattle.receive_unreliable.specs.declared.Arrived.{Arrived}
-use Rattle.receive_unreliable.specs.declared.Discard.{Discard}
-use Rattle.receive_unreliable.specs.declared.Discard.TheVariants as discard
-use Rattle.receive_unreliable.specs.declared.Discarded.{Discarded}
-use Rattle.receive_unreliable.specs.declared.Store.{Store}
-use Rattle.receive_unreliable.specs.declared.Store.TheVariants.{Small, Lanes}
-use Rattle.receive_unreliable.specs.declared.Look.{Look}
-use Rattle.receive_unreliable.specs.declared.Look.TheVariants as look
-use Rattle.receive_unreliable.specs.declared.Received.{Received}
+use Rattle.receive_unreliable.specs.declared.Message.{Message}
 
 -- most messages that wait
 abbrev pub ROWS : ℕ
@@ -91,10 +86,10 @@ pub data Outcome : Type 0 where
   dropped : Outcome
   refused : ℕ → Outcome
 
-abbrev pub arrival_of : Arrival → Outcome
-arrival_of arrival.Taken = taken
-arrival_of arrival.Dropped = dropped
-arrival_of (arrival.Refused e) = refused (number_of e)
+abbrev pub arrival_of : Result Arrival Refusal → Outcome
+arrival_of (Ok arrival.Taken) = taken
+arrival_of (Ok arrival.Dropped) = dropped
+arrival_of (Err e) = refused (number_of e)
 
 -- e, where it is a refusal; else what follows
 abbrev pub judged : {A : Type 0} → ℕ → (ℕ → A) → A → A
@@ -328,9 +323,9 @@ pub data Discarding : Type 0 where
   gone : ℕ → Discarding
   kept : ℕ → Discarding
 
-abbrev pub discard_of : Discard → Discarding
-discard_of (discard.Discarded n) = gone n
-discard_of (discard.Refused e) = kept (number_of e)
+abbrev pub discard_of : Result ℕ Refusal → Discarding
+discard_of (Ok n) = gone n
+discard_of (Err e) = kept (number_of e)
 
 unfoldable pub discard_answer : ReceiveChannelUnreliable → ℕ → Discarding
 discard_answer s t = pick (ltb t s.latest) (kept 14) (gone (walk_count LANES t (at_time s t)))
@@ -354,10 +349,10 @@ shown_at s no_place = none-waiting
 abbrev pub waiting : ReceiveChannelUnreliable → Waiting
 waiting s = shown_at s (next_place s)
 
-abbrev pub look_of : Look → Waiting
-look_of (look.Message store place len) = message store place len
-look_of look.Nothing = none-waiting
-look_of (look.Refused e) = refusing (number_of e)
+abbrev pub look_of : Result (Option Message) Refusal → Waiting
+look_of (Ok (Some m)) = message m.store m.place m.len
+look_of (Ok None) = none-waiting
+look_of (Err e) = refusing (number_of e)
 
 -- a look, with stores of these lengths lent: 10
 unfoldable pub look_at : ReceiveChannelUnreliable → ℕ → ℕ → Waiting
@@ -483,7 +478,19 @@ pub record Valid (s : ReceiveChannelUnreliable) : Type 0 where
   pub usage : s.memory_usage_bytes ≡ total (λ n. n) s.cell_lens + total (λ n. n) s.lane_lens
   pub usage-most : s.memory_usage_bytes ≤ s.settings.max_memory_usage_bytes
 
--- ---- what each call gives, all of it
+-- ---- what each call gives, all of it: an answer, and the receiver
+
+abbrev pub Made : Type 0
+Made = After (Result (Unit {0}) Refusal) ReceiveChannelUnreliable
+
+abbrev pub Arrived : Type 0
+Arrived = After (Result Arrival Refusal) ReceiveChannelUnreliable
+
+abbrev pub Discarded : Type 0
+Discarded = After (Result ℕ Refusal) ReceiveChannelUnreliable
+
+abbrev pub Received : Type 0
+Received = After (Option Message) ReceiveChannelUnreliable
 
 pub record MadeGives (s : Settings) (r : Made) : Type 0 where
   pub number : setup_number r.answer ≡ settings_refusal s
@@ -508,6 +515,6 @@ pub record DiscardGives (s : ReceiveChannelUnreliable) (t : ℕ) (r : Discarded)
   pub valid : Valid r.state
 
 pub record TakeGives (s : ReceiveChannelUnreliable) (r : Received) : Type 0 where
-  pub answer : look_of r.answer ≡ waiting s
+  pub answer : look_of (Ok r.answer) ≡ waiting s
   pub state : r.state ≡ after_take s
   pub valid : Valid r.state

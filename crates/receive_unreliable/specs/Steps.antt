@@ -1,5 +1,5 @@
 -- What the private functions give. Assumes nothing.
-use Rattle.std.specs.Prelude.{ℕ, ◌+◌, ◌-◌, ◌*◌, ◌≤◌, ◌<◌, ◌≡◌, Bool, false, List, ltb, get_or}
+use Rattle.std.specs.Prelude.{ℕ, ◌+◌, ◌-◌, ◌*◌, ◌≤◌, ◌<◌, ◌≡◌, Bool, false, List, ltb, get_or, Result, Option, Some, None}
 use Rattle.words.specs.Sizes.{SLICE_SIZE, LANES}
 use Rattle.words.specs.Choice.{pick}
 use Rattle.channel.specs.Find.{held_at}
@@ -8,23 +8,22 @@ use Rattle.slice_constructor.specs.Collect as c
 use Rattle.receive_unreliable.specs.Receive.{Place, at-cell, at-lane, no_place, Outcome, taken, dropped, refused, arrival_of, MessageSpot, cell, nowhere, SliceSpot, opened, fresh, nothing}
 use Rattle.receive_unreliable.specs.declared.ReceiveChannelUnreliable.{ReceiveChannelUnreliable}
 use Rattle.receive_unreliable.specs.declared.Arrival.{Arrival}
-use Rattle.receive_unreliable.specs.declared.Store.TheVariants.{Small, Lanes}
-use Rattle.receive_unreliable.specs.declared.Held.{Held}
-use Rattle.receive_unreliable.specs.declared.Held.TheVariants as held
-use Rattle.receive_unreliable.specs.declared.Opened.{Opened}
-use Rattle.receive_unreliable.specs.declared.Opened.TheVariants as opened-at
-use Rattle.receive_unreliable.specs.declared.SlicePlace.{SlicePlace}
+use Rattle.words.specs.declared.Refusal.{Refusal}
+use Rattle.channel.specs.declared.Store.{Store}
+use Rattle.channel.specs.declared.Store.TheVariants.{Small, Lanes}
+use Rattle.channel.specs.declared.Opened.{Opened}
+use Rattle.channel.specs.declared.SlicePlace.{SlicePlace}
 
-abbrev pub held_of : Held → Place
-held_of (held.At Small i) = at-cell i
-held_of (held.At Lanes l) = at-lane l
-held_of held.Nothing = no_place
+abbrev pub held_of : Option (Store × ℕ) → Place
+held_of (Some (Small, i)) = at-cell i
+held_of (Some (Lanes, l)) = at-lane l
+held_of None = no_place
 
 -- where the open message with an id is, by the columns of the table: its lane and its charge
-unfoldable pub opened_by : List Bool → List ℕ → List ℕ → ℕ → Opened
-opened_by opens ids lens id = pick (ltb (held_at opens ids id) LANES) (opened-at.At (held_at opens ids id) (get_or lens (held_at opens ids id) 0)) opened-at.Nothing
+unfoldable pub opened_by : List Bool → List ℕ → List ℕ → ℕ → Option Opened
+opened_by opens ids lens id = pick (ltb (held_at opens ids id) LANES) (Some (record { lane = held_at opens ids id; charge = get_or lens (held_at opens ids id) 0 })) None
 
-abbrev pub opened_in : ReceiveChannelUnreliable → ℕ → Opened
+abbrev pub opened_in : ReceiveChannelUnreliable → ℕ → Option Opened
 opened_in s id = opened_by s.opens s.lane_ids s.lane_lens id
 
 -- on to `a` where what arrives may be taken, else told as f says
@@ -34,19 +33,19 @@ told f a dropped = f dropped
 told f a (refused e) = f (refused e)
 
 -- where a small message goes that is told so, with cell i free for it
-abbrev pub message_to : ℕ → Arrival → MessageSpot
+abbrev pub message_to : ℕ → Result Arrival Refusal → MessageSpot
 message_to i a = told nowhere (cell i) (arrival_of a)
 
 -- the lane for a piece: its message's where that is open, else lane i, which is free
-abbrev pub lane_for_of : Opened → ℕ → SliceSpot
-lane_for_of (opened-at.At l n) i = opened l
-lane_for_of opened-at.Nothing i = fresh i
+abbrev pub lane_for_of : Option Opened → ℕ → SliceSpot
+lane_for_of (Some o) i = opened o.lane
+lane_for_of None i = fresh i
 
 abbrev pub slice_place_of : SlicePlace → SliceSpot
 slice_place_of p = pick p.fresh (fresh p.lane) (opened p.lane)
 
 -- where a piece goes that is told so, with this lane for it
-abbrev pub slice_to : SliceSpot → Arrival → SliceSpot
+abbrev pub slice_to : SliceSpot → Result Arrival Refusal → SliceSpot
 slice_to lane a = told nothing lane (arrival_of a)
 
 -- k may go on in lane l at time t: the lane is open already, or free

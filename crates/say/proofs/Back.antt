@@ -14,10 +14,10 @@ use Rattle.words.specs.Lists.{all, All}
 use Rattle.words.proofs.Lists.{all_snoc, all_drop}
 use Rattle.script.specs.Words.{same}
 use Rattle.script.specs.Numbers.{digit, digits_of, power, number_of}
-use Rattle.script.specs.declared.Number.TheVariants.{Value}
+use Rattle.std.specs.Prelude.{Ok}
 use Rattle.script.specs.Bytes.{hex_of, hex, pair_of, pairs_of, then, stretch, bytes, plain_of, stretch_of, part_of, grown, parts_of, outcome, bytes_of}
-use Rattle.script.specs.declared.Bytes.TheVariants.{To}
-use Rattle.script.proofs.Parts.{all_cons, hex-digit, hex-letter, plain-is, part-short, part-plain, part-run, part_up, length-stretch}
+use Rattle.script.proofs.Words.{all_cons}
+use Rattle.script.proofs.Parts.{plain-is, part-short, part-plain, part-run, part_up, length-stretch}
 use Rattle.say.specs.Say.{decimal_of, places}
 use Rattle.say.specs.Spelled.{LEAST, runs, part_at, length_of, past_of, kind_of, byte_of, text_of, point_of, spelled_from, spelled}
 use Rattle.say.specs.declared.Part.{Part}
@@ -28,6 +28,12 @@ use Rattle.say.proofs.Digits.{decimal-value, decimal-digits}
 use Rattle.say.proofs.Spelling.{length_digits, places-ge}
 
 -- ---- hex digits
+
+hex-digit : (c : ℕ) → 48 ≤ c → c ≤ 57 → c - 48 ≡ hex_of c
+hex-digit c h g = rw (le-leb 48 c h, le-leb c 57 g)
+
+hex-letter : (c : ℕ) → 57 < c → 97 ≤ c → c ≤ 102 → c - 97 + 10 ≡ hex_of c
+hex-letter c h g l = rw (le-leb 48 c (omega arith), lt-leb c 57 h, le-leb 97 c g, le-leb c 102 l)
 
 module _ (d : ℕ) (h : d < 16) where
   glyph-by : (t : Bool) → ltb d 10 ≡ t → (hex_of (hex_digit_ascii d) ≡ d) × (48 ≤ hex_digit_ascii d) × (hex_digit_ascii d ≤ 102)
@@ -171,7 +177,7 @@ runs_taken up b (x ∷ xs) = runs_by (eqb x b) up b x xs refl (runs_taken up (th
 
 module _ (room : ℕ) where
   Read : ℕ → List ℕ → List ℕ → Type 0
-  Read at t zs = outcome room at (map part_of (parts_of t)) ≡ record { told = zs; answer = To (at + length zs) }
+  Read at t zs = outcome room at (map part_of (parts_of t)) ≡ record { told = zs; answer = Ok (at + length zs) }
 
   module _ (at : ℕ) (t bs : List ℕ) (e : part_of t ≡ bytes bs) (c : Clear t) where
     read_one : at + length bs ≤ room → Read at t bs
@@ -312,7 +318,7 @@ first-letter k x xs =
     (part-cases 0 (λ q. same (after 0 k Nothing (x ∷ xs) q) (45 ∷ []) ≡ false) x xs (λ up h. rw e) (rw e))
 
 -- what `say` spells, `script` reads: the same bytes, where there is room for them
-pub spelled_back : (room : ℕ) (xs : List ℕ) → Bytes xs → length xs ≤ room → room < 2 ^ 64 → bytes_of room (spelled xs) ≡ record { told = xs; answer = To (length xs) }
+pub spelled_back : (room : ℕ) (xs : List ℕ) → Bytes xs → length xs ≤ room → room < 2 ^ 64 → bytes_of room (spelled xs) ≡ record { told = xs; answer = Ok (length xs) }
 unfolding bytes_of spelled same hexes Pending Read All
 spelled_back room [] a l m = refl
 spelled_back room (x ∷ xs) a l m =
@@ -339,7 +345,7 @@ no_power true true v e = e
 no_power true false v e = refl
 no_power false u v e = refl
 
-pub decimal-back : (n : ℕ) → n < 2 ^ 64 → number_of (decimal_of n) ≡ Value n
+pub decimal-back : (n : ℕ) → n < 2 ^ 64 → number_of (decimal_of n) ≡ Ok n
 unfolding number_of digits_of
 decimal-back n h =
     let s : List ℕ = decimal_of n in

@@ -11,7 +11,7 @@ use Rattle.io.specs.Digits.{hex_digit_ascii, IsDigitCount, last_digits}
 use Rattle.words.specs.Choice.{pick}
 use Rattle.words.specs.Lists.{all}
 use Rattle.script.specs.Numbers.{digit, value_of}
-use Rattle.script.proofs.Parts.{all_cons}
+use Rattle.script.proofs.Words.{all_cons}
 use Rattle.say.specs.Say.{places, decimal_of}
 
 -- below ten there is one digit

@@ -1,6 +1,6 @@
 pub mod Page
 pub mod Digits
-pub mod Digest
+pub mod Digests
 pub mod Spelling
 pub mod Vectors
 pub mod Back

@@ -1,20 +1,27 @@
 -- Laws of what is set down on a page. Assumes nothing.
-use Prim.Native.Nat.{ℕ, ◌+◌, ◌≤◌, ◌<◌}
+use Prim.Native.Nat.{ℕ, ◌+◌, ◌≤◌}
 use mathlib.Core.Path.{◌≡◌, refl, ap, ◌∙◌}
-use mathlib.Core.List.{List, ◌++◌}
+use mathlib.Core.Bool.{Bool, true, false}
+use mathlib.Core.List.{List, [], ◌++◌}
+use lib.Dec.{leb}
 use native.Mathlib.Omega.{arith}
 use lib.ListN.{length, length-append}
-use borrow.Author.Tests.{le-leb, lt-leb}
+use borrow.Author.Tests.{le-leb}
 use Rattle.words.specs.Lists.{splice}
 use Rattle.words.proofs.Splice.{length-splice, splice-splice}
 use Rattle.say.specs.Say.{Says}
 
-module _ (page : List ℕ) (at : ℕ) (s : List ℕ) where
-  pub says_nothing : length page < at + length s → Says page at s page at
-  says_nothing h = record { bytes = rw (lt-leb _ _ h) refl; place = rw (lt-leb _ _ h) refl }
+pub says_all : (page : List ℕ) (at : ℕ) (s page' : List ℕ) (r : ℕ) → at + length s ≤ length page → r ≡ at + length s → page' ≡ splice at s page → Says page at s page' r
+says_all page at s page' r h e f = record { bytes = rw (le-leb _ _ h) f; place = rw (le-leb _ _ h) e }
 
-  pub says_all : (page' : List ℕ) (r : ℕ) → at + length s ≤ length page → r ≡ at + length s → page' ≡ splice at s page → Says page at s page' r
-  says_all page' r h e f = record { bytes = rw (le-leb _ _ h) f; place = rw (le-leb _ _ h) e }
+-- no text is nothing to set down
+empty-by : (t : Bool) (page : List ℕ) (at : ℕ) → leb (at + 0) (length page) ≡ t → Says page at [] page at
+unfolding splice
+empty-by true page at e = record { bytes = rw e; place = rw e (omega arith) }
+empty-by false page at e = record { bytes = rw e; place = rw e }
+
+pub says_empty : (page : List ℕ) (at : ℕ) → Says page at [] page at
+says_empty page at = empty-by (leb (at + 0) (length page)) page at refl
 
 pub says-as : (page : List ℕ) (at : ℕ) (s s' page' : List ℕ) (r : ℕ) → s ≡ s' → Says page at s page' r → Says page at s' page' r
 says-as page at s s' page' r e h = rw e at h

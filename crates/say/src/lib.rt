@@ -1,7 +1,7 @@
 #![tactic(auto)]
 // Words of an answer, set down one after the other on a page of lent bytes. What doesn't fit is left
 // out whole, so a page never overruns.
-ghost use Rattle.std.specs.Prelude.{◌≡◌, ◌+◌, ◌≤◌, ◌<◌, min, max, ◌++◌, length, get_or, drop};
+ghost use Rattle.std.specs.Prelude.{◌≡◌, ℕ, ◌+◌, ◌≤◌, ◌<◌, min, max, ◌++◌, length, get_or, drop, map};
 ghost use Rattle.say.specs.Say.{Says, decimal_of};
 ghost use Rattle.say.specs.Refused.{refusal_of};
 ghost use Rattle.say.specs.Spelled.{LEAST, WIDEST, runs, part_at, length_of, past_of, kind_of, byte_of, sign_of, text_of, point_of, Puts};
@@ -13,10 +13,7 @@ use words::Refusal;
 pub fn text(page: &mut [u8], at: usize, s: &[u8]) -> usize
     ensures { Says page.old at s.now page.new result }
 {
-    if page.len() < at {
-        return at;
-    }
-    if page.len() - at < s.len() {
+    if page.len() < at || page.len() - at < s.len() {
         return at;
     }
     words::write_bytes(page, at, s)
@@ -31,45 +28,49 @@ pub fn number(page: &mut [u8], at: usize, v: u64) -> usize
     text(page, at, &digits[..k])
 }
 
-// Sets a refusal down: its number and its name.
+// A refusal in words: its number and its name.
+#[tactic(auto, unfolding(crate::specs::Say::places))]
+fn told(e: Refusal) -> &'static [u8]
+    ensures { result.now ≡ refusal_of e }
+{
+    match e {
+        Refusal::BufferTooShort => b"1 BufferTooShort",
+        Refusal::InvalidNumSlices => b"2 InvalidNumSlices",
+        Refusal::SliceSizeAboveLimit => b"3 SliceSizeAboveLimit",
+        Refusal::EmptySlice => b"4 EmptySlice",
+        Refusal::InvalidAckRange => b"5 InvalidAckRange",
+        Refusal::InvalidPacketType => b"6 InvalidPacketType",
+        Refusal::ReliableChannelMaxMemoryReached => b"7 ReliableChannelMaxMemoryReached",
+        Refusal::InvalidSliceMessage => b"8 InvalidSliceMessage",
+        Refusal::BadSettings => b"9 BadSettings",
+        Refusal::BadStore => b"10 BadStore",
+        Refusal::TableFull => b"11 TableFull",
+        Refusal::TooLong => b"12 TooLong",
+        Refusal::BadNumber => b"13 BadNumber",
+        Refusal::ClockBack => b"14 ClockBack",
+        Refusal::NoRoom => b"15 NoRoom",
+        Refusal::WrongKind => b"16 WrongKind",
+        Refusal::BadIndex => b"17 BadIndex",
+    }
+}
+
+// Sets a refusal down.
 pub fn refusal(page: &mut [u8], at: usize, e: Refusal) -> usize
     ensures { Says page.old at (refusal_of e) page.new result }
 {
-    match e {
-        Refusal::BufferTooShort => text(page, at, b"1 BufferTooShort"),
-        Refusal::InvalidNumSlices => text(page, at, b"2 InvalidNumSlices"),
-        Refusal::SliceSizeAboveLimit => text(page, at, b"3 SliceSizeAboveLimit"),
-        Refusal::EmptySlice => text(page, at, b"4 EmptySlice"),
-        Refusal::InvalidAckRange => text(page, at, b"5 InvalidAckRange"),
-        Refusal::InvalidPacketType => text(page, at, b"6 InvalidPacketType"),
-        Refusal::ReliableChannelMaxMemoryReached => text(
-            page,
-            at,
-            b"7 ReliableChannelMaxMemoryReached",
-        ),
-        Refusal::InvalidSliceMessage => text(page, at, b"8 InvalidSliceMessage"),
-        Refusal::BadSettings => text(page, at, b"9 BadSettings"),
-        Refusal::BadStore => text(page, at, b"10 BadStore"),
-        Refusal::TableFull => text(page, at, b"11 TableFull"),
-        Refusal::TooLong => text(page, at, b"12 TooLong"),
-        Refusal::BadNumber => text(page, at, b"13 BadNumber"),
-        Refusal::ClockBack => text(page, at, b"14 ClockBack"),
-        Refusal::NoRoom => text(page, at, b"15 NoRoom"),
-        Refusal::WrongKind => text(page, at, b"16 WrongKind"),
-        Refusal::BadIndex => text(page, at, b"17 BadIndex"),
-    }
+    text(page, at, told(e))
 }
 
 // A part of bytes as they are spelt: one byte, or a stretch, up or of the same, of so many from a byte
 // on.
-#[derive(Clone, Copy)]
+#[derive(Clone, Copy, Debug, PartialEq, Eq)]
 pub enum Part {
     Byte(u8),
     Stretch(bool, u8, usize),
 }
 
 // What stands before a part.
-#[derive(Clone, Copy)]
+#[derive(Clone, Copy, Debug, PartialEq, Eq)]
 pub enum Before {
     Nothing,
     Bare,
@@ -87,7 +88,7 @@ pub fn byte(page: &mut [u8], at: usize, b: u8) -> usize
     ensures { Says page.old at (byte_of b) page.new result }
 {
     let mut digits = [0u8; 16];
-    let k = io::hex(b as u64, 2, &mut digits);
+    let k = io::hex(u64::from(b), 2, &mut digits);
     text(page, at, &digits[..k])
 }
 
@@ -97,15 +98,13 @@ fn run(s: &[u8], from: usize, up: bool) -> usize
     ensures { result ≡ runs up (get_or s.now from 0) (drop from s.now) }
 {
     let mut b = s[from];
-    let mut i = from;
-    while i < s.len() {
+    for i in from..s.len() {
         if s[i] != b {
             return i - from;
         }
         b = script::follow(up, b);
-        i += 1;
     }
-    i - from
+    s.len() - from
 }
 
 // The part at a place.
@@ -145,14 +144,8 @@ pub fn past_part(s: &[u8], from: usize, p: Part) -> usize
     if s.len() <= from {
         return from;
     }
-    let n = part_len(p);
-    if n == 0 {
-        return from + 1;
-    }
-    if s.len() - from < n {
-        return s.len();
-    }
-    from + n
+    let next = from.saturating_add(part_len(p).max(1));
+    next.min(s.len())
 }
 
 // What a part is for the next one.
@@ -166,16 +159,13 @@ pub fn part_kind(p: Part) -> Before
 }
 
 // The point before a part, if there is one.
+#[tactic(auto, using(crate::proofs::Page::says_empty))]
 fn put_point(page: &mut [u8], at: usize, w: Before, p: Part) -> usize
     ensures { Says page.old at (point_of w p) page.new result }
 {
-    match w {
-        Before::Nothing => text(page, at, b""),
-        Before::Drawn => text(page, at, b"."),
-        Before::Bare => match p {
-            Part::Byte(_) => text(page, at, b""),
-            Part::Stretch(_, _, _) => text(page, at, b"."),
-        },
+    match (w, p) {
+        (Before::Nothing, _) | (Before::Bare, Part::Byte(_)) => at,
+        (Before::Drawn, _) | (Before::Bare, Part::Stretch(..)) => text(page, at, b"."),
     }
 }
 
@@ -183,20 +173,14 @@ fn put_point(page: &mut [u8], at: usize, w: Before, p: Part) -> usize
 fn put_sign(page: &mut [u8], at: usize, up: bool) -> usize
     ensures { Says page.old at (sign_of up) page.new result }
 {
-    if up {
-        return text(page, at, b"~");
-    }
-    text(page, at, b"x")
+    text(page, at, if up { b"~" } else { b"x" })
 }
 
 // Sets a part down behind another, where the page has room for the widest.
 pub fn put_part(page: &mut [u8], at: usize, w: Before, p: Part) -> usize
     ensures { Puts page.old at (point_of w p ++ text_of p) page.new result }
 {
-    if page.len() < at {
-        return at;
-    }
-    if page.len() - at < WIDEST {
+    if page.len() < at || page.len() - at < WIDEST {
         return at;
     }
     let k = put_point(page, at, w, p);
@@ -221,34 +205,27 @@ fn mix(h: u64, v: u64) -> u64
     (251 * h + v % MODULUS) % MODULUS
 }
 
-fn wide(b: u8) -> u64
-    ensures { result ≡ b }
+// A digest of bytes or of words, in which each place counts.
+fn digest<T: Copy + Into<u64>>(s: &[T]) -> u64
+    ensures { (value : T → ℕ) → ((x : T) (v : ℕ) → T.converts x v → v ≡ value x) → result ≡ digest_of (map value s.now) }
 {
-    b as u64
+    let mut h = 0;
+    for x in s {
+        h = mix(h, (*x).into());
+    }
+    h
 }
 
-// A digest of bytes, in which each place counts.
+// A digest of bytes. Two names, since at one type the promise needs no map from what is digested to numbers.
 pub fn digest_bytes(s: &[u8]) -> u64
     ensures { result ≡ digest_of s.now }
 {
-    let mut h = 0;
-    let mut i = 0;
-    while i < s.len() {
-        h = mix(h, wide(s[i]));
-        i += 1;
-    }
-    h
+    digest(s)
 }
 
 // The same of words.
 pub fn digest_words(t: &[u64]) -> u64
     ensures { result ≡ digest_of t.now }
 {
-    let mut h = 0;
-    let mut i = 0;
-    while i < t.len() {
-        h = mix(h, t[i]);
-        i += 1;
-    }
-    h
+    digest(t)
 }

@@ -1,142 +1,75 @@
 -- Laws of numbers as they are read: a digit more, a power of two, two DIGITS joined. Assumes nothing.
-use Prim.Native.Nat.{ℕ, suc, ◌+◌, ◌-◌, ◌*◌, ◌%◌, ◌^◌, ◌≤◌, ◌<◌}
-use mathlib.Core.Path.{◌≡◌, refl, ap, sym, ◌∙◌}
+use Prim.Native.Nat.{ℕ, ◌+◌, ◌-◌, ◌*◌, ◌^◌, ◌≤◌, ◌<◌}
+use mathlib.Core.Path.{◌≡◌, refl, ap, ◌∙◌}
 use mathlib.Core.Bool.{Bool, true, false}
 use mathlib.Core.List.{List, [], ◌∷◌}
-use native.Mathlib.Nat.{one-mul}
 use native.Mathlib.Numerals.{add-one}
 use native.Mathlib.Omega.{arith}
 use borrow.Author.Tests.{ltb-true, ltb-false, lt-ltb, le-ltb, le-leb, lt-leb, eq-eqb, ne_eqb}
-use lib.Dec.{eqb, ltb, lit<}
+use lib.Dec.{eqb, ltb}
 use lib.ListN.{length, get_or, take, drop, length-drop, drop_of_length-le}
 use lib.Seq.{drop-cons, take_all}
-use lib.Pow.{shl_exact, pow-lt}
 use Rattle.words.specs.Choice.{pick}
 use Rattle.words.specs.Lists.{all}
-use Rattle.script.specs.Numbers.{digit, value_of, below, digits_of, raised, lowered, joined, power_of, number_of, extended, grown}
+use Rattle.script.specs.Numbers.{digit, value_of, below, digits_of, joined, power_of, number_of, Number}
 use Rattle.script.specs.Words.{sign, until}
-use Rattle.script.specs.declared.Number.{Number}
-use Rattle.script.specs.declared.Number.TheVariants.{Value, NotANumber, TooLarge}
+use Rattle.std.specs.Prelude.{Ok, Err}
+use Rattle.script.specs.declared.NumberFault.{NumberFault}
+use Rattle.script.specs.declared.NumberFault.TheVariants.{NotANumber, TooLarge}
 
-pub below_in : (v : ℕ) → v < 2 ^ 64 → Value v ≡ below v
+pub below_in : (v : ℕ) → v < 2 ^ 64 → Ok v ≡ below v
 below_in v h = rw (lt-ltb v (2 ^ 64) h)
 
-pub below_out : (v : ℕ) → 2 ^ 64 ≤ v → TooLarge ≡ below v
+pub below_out : (v : ℕ) → 2 ^ 64 ≤ v → Err TooLarge ≡ below v
 below_out v h = rw (le-ltb v (2 ^ 64) h)
 
 -- ---- DIGITS: what is left, from here, gives what the whole gives
-
--- digits that stand for n, with more behind them
-unfoldable pub rest : Number → List ℕ → Number
-rest NotANumber t = NotANumber
-rest TooLarge t = pick (all digit t) TooLarge NotANumber
-rest (Value v) t = pick (all digit t) (below (value_of v t)) NotANumber
 
 value_of-le : (v : ℕ) (t : List ℕ) → v ≤ value_of v t
 unfolding value_of
 value_of-le v [] = omega arith
 value_of-le v (c ∷ t) = omega (arith, value_of-le (v * 10 + (c - 48)) t)
 
-rest_below : (t : List ℕ) (w : ℕ) (b : Bool) → ltb w (2 ^ 64) ≡ b
-    → rest (pick b (Value w) TooLarge) t ≡ pick (all digit t) (below (value_of w t)) NotANumber
-unfolding rest
-rest_below t w true e = refl
-rest_below t w false e = rw (sym (below_out (value_of w t) (omega (arith, ltb-false w (2 ^ 64) e, value_of-le w t))))
-
-rest-next : (n : Number) (c : ℕ) (t : List ℕ) (b : Bool) → digit c ≡ b → rest n (c ∷ t) ≡ rest (pick b (extended n (c - 48)) NotANumber) t
-unfolding rest all value_of
-rest-next NotANumber c t true e = refl
-rest-next NotANumber c t false e = refl
-rest-next TooLarge c t true e = rw e
-rest-next TooLarge c t false e = rw e
-rest-next (Value v) c t true e = rw e (sym (rest_below t (v * 10 + (c - 48)) (ltb (v * 10 + (c - 48)) (2 ^ 64)) refl))
-rest-next (Value v) c t false e = rw e
-
-pub rest_more : (s : List ℕ) (n : Number) (i : ℕ) → i < length s → rest n (drop i s) ≡ rest (grown n (get_or s i 0)) (drop (i + 1) s)
-rest_more s n i h = rw (add-one, drop-cons s i 0 h) (rest-next n (get_or s i 0) (drop (suc i) s) (digit (get_or s i 0)) refl)
-
-pub rest_all : (s : List ℕ) → (length s ≡ 0 → ⊥) → digits_of s ≡ rest (Value 0) s
-unfolding digits_of rest
-rest_all s h = rw (ne_eqb (length s) 0 h)
-
-pub rest-none : (s : List ℕ) → length s ≡ 0 → NotANumber ≡ digits_of s
+pub digits-none : (s : List ℕ) → length s ≡ 0 → Err NotANumber ≡ digits_of s
 unfolding digits_of
-rest-none s h = rw (eq-eqb (length s) 0 h)
+digits-none s h = rw (eq-eqb (length s) 0 h)
 
--- a number of 64 bits, or none
-abbrev pub Small : Number → Type 0
-Small NotANumber = Unit {0}
-Small TooLarge = Unit {0}
-Small (Value v) = v < 2 ^ 64
+pub digits-not : (s : List ℕ) → all digit s ≡ false → Err NotANumber ≡ digits_of s
+unfolding digits_of all
+digits-not [] e = absurd (let z : ◌≡◌ {A = ℕ} 0 1 = cc in omega arith)
+digits-not (c ∷ s) e = rw (e, ne_eqb (length (c ∷ s)) 0 (λ h. absurd (omega arith)))
 
-below-small : (w : ℕ) (b : Bool) → ltb w (2 ^ 64) ≡ b → Small (pick b (Value w) TooLarge)
-below-small w true e = omega (arith, ltb-true w (2 ^ 64) e)
-below-small w false e = tt
+over : (f : NumberFault) (w : ℕ) (t : Bool) → ltb w (2 ^ 64) ≡ t → Err f ≡ pick t (Ok w) (Err TooLarge) → (f ≡ TooLarge) × (2 ^ 64 ≤ w)
+over f w true e g = absurd (let z : ◌≡◌ {A = ℕ} 0 1 = cc in omega arith)
+over f w false e g = (cc, ltb-false w (2 ^ 64) e)
 
-grown-by : (n : Number) (c : ℕ) (b : Bool) → Small (pick b (extended n c) NotANumber)
-grown-by n c false = tt
-grown-by NotANumber c true = tt
-grown-by TooLarge c true = tt
-grown-by (Value v) c true = below-small (v * 10 + c) (ltb (v * 10 + c) (2 ^ 64)) refl
+fits : (w n : ℕ) (t : Bool) → ltb n (2 ^ 64) ≡ t → Ok w ≡ pick t (Ok n) (Err TooLarge) → (w ≡ n) × (w < 2 ^ 64)
+fits w n true e g = let f : w ≡ n = cc in (f, omega (arith, ltb-true n (2 ^ 64) e))
+fits w n false e g = absurd (let z : ◌≡◌ {A = ℕ} 0 1 = cc in omega arith)
 
-pub small-grown : (n m : Number) (c : ℕ) → m ≡ grown n c → Small m
-small-grown n m c e = rw e (grown-by n (c - 48) (digit c))
+pub below-ok : (w n : ℕ) → Ok w ≡ below n → (w ≡ n) × (w < 2 ^ 64)
+below-ok w n e = fits w n (ltb n (2 ^ 64)) refl e
 
-rest_end : (n : Number) → Small n → rest n [] ≡ n
-unfolding rest all value_of
-rest_end NotANumber h = refl
-rest_end TooLarge h = refl
-rest_end (Value v) h = sym (below_in v h)
+pub digits-all : (s : List ℕ) → (length s ≡ 0 → ⊥) → all digit s ≡ true → below (value_of 0 s) ≡ digits_of s
+unfolding digits_of
+digits-all s h e = rw (ne_eqb (length s) 0 h, e)
 
-pub rest-done : (s : List ℕ) (n : Number) (i : ℕ) → length s ≤ i → Small n → n ≡ rest n (drop i s)
-rest-done s n i h l = rw (drop_of_length-le s h) (sym (rest_end n l))
+module _ (s : List ℕ) (v i : ℕ) (k : value_of v (drop i s) ≡ value_of 0 s) where
+  pub digits-step : i < length s → value_of (v * 10 + (get_or s i 0 - 48)) (drop (i + 1) s) ≡ value_of 0 s
+  unfolding value_of
+  digits-step l = rw add-one (rw (drop-cons s i 0 l) at k)
 
--- ---- 2^k, d more or fewer
+  -- too large so far is too large in the whole
+  pub digits-over : (f : NumberFault) → Err f ≡ below (v * 10 + (get_or s i 0 - 48)) → i < length s → Err f ≡ below (value_of 0 s)
+  digits-over f g l =
+      let w : ℕ = v * 10 + (get_or s i 0 - 48) in
+      let o : (f ≡ TooLarge) × (2 ^ 64 ≤ w) = over f w (ltb w (2 ^ 64)) refl g in
+      let m : w ≤ value_of 0 s = omega (arith, digits-step l, value_of-le w (drop (i + 1) s)) in
+      ap Err o.0 ∙ below_out (value_of 0 s) (omega (arith, o.1))
 
--- what 1 << k is
-abbrev pub shifted : ℕ → ℕ
-shifted k = 1 * 2 ^ k % 2 ^ 64
-
-pub shift : (k : ℕ) → k ≤ 63 → shifted k ≡ 2 ^ k
-shift k h = shl_exact {a = 1} 1 k 64 (lit< tt) (omega arith) ∙ one-mul (2 ^ k)
-
--- at 64
-at-64 : (k : ℕ) → k ≡ 64 → 2 ^ k ≡ 2 ^ 64
-at-64 k e = ap (λ (n : ℕ). 2 ^ n) e
-
-raise-above : (k d : ℕ) (t : Bool) → ltb 64 k ≡ t → 63 < k → TooLarge ≡ pick t TooLarge (below (2 ^ k + d))
-raise-above k d true e h = refl
-raise-above k d false e h = below_out (2 ^ k + d) (omega (arith, at-64 k (omega (arith, ltb-false 64 k e))))
-
-module _ (k d : ℕ) where
-  pub raise-wide : 63 < k → TooLarge ≡ raised k d
-  raise-wide h = raise-above k d (ltb 64 k) refl h
-
-  pub lower-wide : 64 < k → TooLarge ≡ lowered k d
-  lower-wide h = rw (lt-ltb 64 k h)
-
-  module _ (e : k ≡ 64) where
-    pub lower-none : d ≡ 0 → TooLarge ≡ lowered k d
-    lower-none z = rw (le-ltb 64 k (omega arith), le-ltb (2 ^ k) d (omega arith)) (below_out (2 ^ k - d) (omega (arith, at-64 k e)))
-
-    pub lower-some : (d ≡ 0 → ⊥) → d < 2 ^ 64 → Value (2 ^ 64 - 1 - (d - 1)) ≡ lowered k d
-    lower-some z f =
-        let p : 2 ^ k ≡ 2 ^ 64 = at-64 k e in
-        let q : 2 ^ 64 - 1 - (d - 1) ≡ 2 ^ k - d = omega arith in
-        rw (le-ltb 64 k (omega arith), le-ltb (2 ^ k) d (omega arith), q) (below_in (2 ^ k - d) (omega arith))
-
-  module _ (h : k ≤ 63) where
-    pub raise-over : 2 ^ 64 - 1 - shifted k < d → TooLarge ≡ raised k d
-    raise-over g = rw (le-ltb 64 k (omega arith)) (below_out (2 ^ k + d) (omega (arith, shift k h)))
-
-    pub raise-in : d ≤ 2 ^ 64 - 1 - shifted k → Value (shifted k + d) ≡ raised k d
-    raise-in g = rw (le-ltb 64 k (omega arith), shift k h) (below_in (2 ^ k + d) (omega (arith, shift k h, pow-lt {i = k} {j = 64} (omega arith))))
-
-    pub lower-under : shifted k < d → NotANumber ≡ lowered k d
-    lower-under g = rw (le-ltb 64 k (omega arith), lt-ltb (2 ^ k) d (omega (arith, shift k h)))
-
-    pub lower_in : d ≤ shifted k → Value (shifted k - d) ≡ lowered k d
-    lower_in g = rw (le-ltb 64 k (omega arith), le-ltb (2 ^ k) d (omega (arith, shift k h)), shift k h) (below_in (2 ^ k - d) (omega (arith, pow-lt {i = k} {j = 64} (omega arith))))
+  pub digits-done : length s ≤ i → v < 2 ^ 64 → Ok v ≡ below (value_of 0 s)
+  unfolding value_of
+  digits-done l f = let e : v ≡ value_of 0 s = rw (drop_of_length-le s l) at k in below_in v f ∙ ap below e
 
 -- ---- the forms
 
@@ -145,7 +78,7 @@ pub tail-is : (s : List ℕ) (a : ℕ) → take (length s - a) (drop a s) ≡ dr
 tail-is s a = take_all (length s - a) (drop a s) (omega (arith, length-drop a s))
 
 module _ (s : List ℕ) (i : ℕ) (e : i ≡ until sign s 0) where
-  pub power-whole : (r k : Number) → length s ≤ i → k ≡ digits_of s → r ≡ joined false k (Value 0) → r ≡ power_of s
+  pub power-whole : (r k : Number) → length s ≤ i → k ≡ digits_of s → r ≡ joined false k (Ok 0) → r ≡ power_of s
   unfolding power_of
   power-whole r k h f g = g ∙ rw (← e, le-ltb i (length s) h, f)
 

@@ -7,12 +7,11 @@ use lib.ListN.{replicate}
 use Rattle.words.specs.Lists.{first, all}
 use Rattle.script.specs.Ascii.{ascii}
 use Rattle.script.specs.Words.{until, word_at, same}
-use Rattle.script.specs.Numbers.{value_of, digits_of, power_of, number_of}
-use Rattle.script.specs.Bytes.{pairs_of, stretch, plain_of, stretch_of, part_of, parts_of, outcome, bytes_of}
-use Rattle.script.specs.declared.Number.{Number}
-use Rattle.script.specs.declared.Number.TheVariants.{Value, NotANumber, TooLarge}
-use Rattle.script.specs.declared.Bytes.{Bytes}
-use Rattle.script.specs.declared.Bytes.TheVariants.{To, NotBytes, TooMany}
+use Rattle.script.specs.Numbers.{value_of, digits_of, power_of, number_of, Number}
+use Rattle.script.specs.Bytes.{pairs_of, stretch, plain_of, stretch_of, part_of, parts_of, outcome, bytes_of, Bytes}
+use Rattle.std.specs.Prelude.{Ok, Err}
+use Rattle.script.specs.declared.NumberFault.TheVariants.{NotANumber, TooLarge}
+use Rattle.script.specs.declared.BytesFault.TheVariants.{NotBytes, TooMany}
 
 word-vectors : map (word_at (ascii " a\tbc#d e")) (0 ∷ 2 ∷ 5 ∷ 99 ∷ []) ≡ record { start = 1; end = 2 } ∷ record { start = 3; end = 5 } ∷ record { start = 5; end = 5 } ∷ record { start = 99; end = 99 } ∷ []
 unfolding until first
@@ -21,22 +20,22 @@ word-vectors = refl
 abbrev numbers : List String → List Number
 numbers = map (λ s. number_of (ascii s))
 
-number-vectors : numbers ("37" ∷ "007" ∷ "2^0" ∷ "2^62" ∷ "2^62-1" ∷ "2^62+1" ∷ []) ≡ Value 37 ∷ Value 7 ∷ Value 1 ∷ Value (2 ^ 62) ∷ Value (2 ^ 62 - 1) ∷ Value (2 ^ 62 + 1) ∷ []
+number-vectors : numbers ("37" ∷ "007" ∷ "2^0" ∷ "2^62" ∷ "2^62-1" ∷ "2^62+1" ∷ []) ≡ Ok 37 ∷ Ok 7 ∷ Ok 1 ∷ Ok (2 ^ 62) ∷ Ok (2 ^ 62 - 1) ∷ Ok (2 ^ 62 + 1) ∷ []
 unfolding until first all value_of digits_of power_of number_of
 number-vectors = refl
 
-largest-vectors : numbers ("18446744073709551615" ∷ "2^64-1" ∷ "2^63+9223372036854775807" ∷ []) ≡ replicate 3 (Value (2 ^ 64 - 1))
+largest-vectors : numbers ("18446744073709551615" ∷ "2^64-1" ∷ "2^63+9223372036854775807" ∷ []) ≡ replicate 3 (Ok (2 ^ 64 - 1))
 unfolding until first all value_of digits_of power_of number_of
 largest-vectors = refl
 
 too-large-vectors :
     numbers ("18446744073709551616" ∷ "2^64" ∷ "2^65" ∷ "2^99999999999999999999" ∷ "2^63+9223372036854775808" ∷ "2^64-18446744073709551616" ∷ "2^3-18446744073709551616" ∷ [])
-    ≡ replicate 7 TooLarge
+    ≡ replicate 7 (Err TooLarge)
 unfolding until first all value_of digits_of power_of number_of
 too-large-vectors = refl
 
 not-a-number-vectors :
-    numbers ("" ∷ "-1" ∷ "x" ∷ "3^2" ∷ "2^" ∷ "2^-1" ∷ "2^3-9" ∷ "2^3-" ∷ "2^3-1-1" ∷ "1e3" ∷ "2^99999999999999999999-x" ∷ []) ≡ replicate 11 NotANumber
+    numbers ("" ∷ "-1" ∷ "x" ∷ "3^2" ∷ "2^" ∷ "2^-1" ∷ "2^3-9" ∷ "2^3-" ∷ "2^3-1-1" ∷ "1e3" ∷ "2^99999999999999999999-x" ∷ []) ≡ replicate 11 (Err NotANumber)
 unfolding until first all value_of digits_of power_of number_of
 not-a-number-vectors = refl
 
@@ -53,15 +52,15 @@ bytes-vectors :
 unfolding all same value_of pairs_of stretch plain_of stretch_of part_of parts_of outcome bytes_of
 bytes-vectors = refl
 
-enough-vectors : answers ("00x16" ∷ "00~15.00" ∷ []) ≡ replicate 2 (To 16)
+enough-vectors : answers ("00x16" ∷ "00~15.00" ∷ []) ≡ replicate 2 (Ok 16)
 unfolding all same value_of pairs_of stretch plain_of stretch_of part_of parts_of outcome bytes_of
 enough-vectors = refl
 
 not-bytes-vectors :
-    answers ("0" ∷ "000" ∷ "0g" ∷ "AA" ∷ "" ∷ "." ∷ "00." ∷ ".00" ∷ "--" ∷ "00x" ∷ "00x-1" ∷ "x3" ∷ "0x3" ∷ "0000x3" ∷ "00~" ∷ "00x1x1" ∷ "00x99z" ∷ []) ≡ replicate 17 NotBytes
+    answers ("0" ∷ "000" ∷ "0g" ∷ "AA" ∷ "" ∷ "." ∷ "00." ∷ ".00" ∷ "--" ∷ "00x" ∷ "00x-1" ∷ "x3" ∷ "0x3" ∷ "0000x3" ∷ "00~" ∷ "00x1x1" ∷ "00x99z" ∷ []) ≡ replicate 17 (Err NotBytes)
 unfolding all same value_of pairs_of stretch plain_of stretch_of part_of parts_of outcome bytes_of
 not-bytes-vectors = refl
 
-too-many-vectors : answers ("00x17" ∷ "00x16.00" ∷ "00.00x16" ∷ "00x17.zz" ∷ []) ≡ replicate 4 TooMany
+too-many-vectors : answers ("00x17" ∷ "00x16.00" ∷ "00.00x16" ∷ "00x17.zz" ∷ []) ≡ replicate 4 (Err TooMany)
 unfolding all same value_of pairs_of stretch plain_of stretch_of part_of parts_of outcome bytes_of
 too-many-vectors = refl

@@ -1,16 +1,18 @@
--- Laws of searches, of a word's letters and of equal texts. Assumes nothing.
-use Prim.Native.Nat.{ℕ, ◌+◌, ◌-◌, ◌≤◌, ◌<◌}
+-- Laws of searches and of equal texts. Assumes nothing.
+use Prim.Native.Nat.{ℕ, zero, suc, max, ◌+◌, ◌≤◌, ◌<◌}
 use mathlib.Core.Path.{◌≡◌, refl, ap, sym, ◌∙◌}
-use mathlib.Core.Bool.{Bool, true, false, not}
+use mathlib.Core.Bool.{Bool, true, false, not, ◌&&◌}
 use mathlib.Core.List.{List, [], ◌∷◌}
 use native.Mathlib.Numerals.{add-one}
 use native.Mathlib.Omega.{arith}
-use borrow.Author.Tests.{eqb-true, eq-eqb, ne_eqb}
-use lib.Dec.{eqb}
-use lib.ListN.{length, get_or, take, drop, length-drop, drop_of_length-le}
-use lib.Seq.{drop-cons, take_all, take-nil}
+use borrow.Author.Tests.{eqb-true, eq-eqb, leb-true, leb-false}
+use lib.Dec.{eqb, leb}
+use lib.ListN.{length, get_or, drop_of_length-le}
+use lib.Seq.{drop-cons}
+use Rattle.std.specs.Bool.{Decides}
+use Rattle.std.specs.List.{list_all}
 use Rattle.words.specs.Choice.{pick}
-use Rattle.words.specs.Lists.{first}
+use Rattle.words.specs.Lists.{first, all}
 use Rattle.script.specs.Words.{blank, stop, until, word_from, word_at, same}
 use Rattle.script.specs.declared.Word.{Word}
 
@@ -29,41 +31,24 @@ module _ (p : ℕ → Bool) (s : List ℕ) (i : ℕ) where
   unfolding until first
   until_end h = rw (drop_of_length-le s h) (omega arith)
 
+max-by : (t : Bool) (p : ℕ → Bool) (s : List ℕ) (from i : ℕ) → leb from (length s) ≡ t → from ≤ i → (from ≤ length s → i ≤ length s) → length s ≤ i → until p s from ≡ until p s i → max from (length s) ≡ until p s from
+max-by true p s from i t a b c e =
+    let f : from ≤ length s = leb-true from (length s) t in
+    let g : max from (length s) ≡ i = omega (arith, b f) in
+    g ∙ until_end p s i c ∙ sym e
+max-by false p s from i t a b c e =
+    let f : length s < from = leb-false from (length s) t in
+    let g : max from (length s) ≡ from = omega arith in
+    g ∙ until_end p s from (omega arith)
+
+-- where nothing was found up to i
+pub until-max : (p : ℕ → Bool) (s : List ℕ) (from i : ℕ) → from ≤ i → (from ≤ length s → i ≤ length s) → length s ≤ i → until p s from ≡ until p s i → max from (length s) ≡ until p s from
+until-max p s from i a b c e = max-by (leb from (length s)) p s from i refl a b c e
+
 pub word-is : (s : List ℕ) (from a e : ℕ) → a ≡ until (λ c. not (blank c)) s from → e ≡ until stop s a → ◌≡◌ {A = Word} (record { start = a; end = e }) (word_at s from)
 word-is s from a e p q = ap (λ (n : ℕ). record { start = a; end = n }) q ∙ ap (word_from s) p
 
--- ---- the letters of a word that is not within the line
-
-module _ (s : List ℕ) (a e : ℕ) where
-  pub letters-past : length s < a → take 0 s ≡ take (e - a) (drop a s)
-  letters-past h = let g : length s ≤ a = omega arith in rw (drop_of_length-le s g, take-nil (e - a))
-
-  pub letters-back : e < a → take 0 s ≡ take (e - a) (drop a s)
-  letters-back h = let g : e - a ≡ 0 = omega arith in rw g
-
-  pub letters-rest : length s < e → take (length s - a) (drop a s) ≡ take (e - a) (drop a s)
-  letters-rest h =
-      take_all (length s - a) (drop a s) (omega (arith, length-drop a s)) ∙ sym (take_all (e - a) (drop a s) (omega (arith, length-drop a s)))
-
 -- ---- equal texts
-
--- what is left, from here, is the same where the whole is
-module _ (a b : List ℕ) where
-  pub same_next : (i : ℕ) → i < length a → length a ≡ length b → get_or a i 0 ≡ get_or b i 0 → same (drop i a) (drop i b) ≡ same (drop (i + 1) a) (drop (i + 1) b)
-  unfolding same
-  same_next i h l e =
-      let k : i < length b = omega arith in
-      rw (add-one, drop-cons a i 0 h, drop-cons b i 0 k, eq-eqb (get_or a i 0) (get_or b i 0) e)
-
-  pub same_not : (i : ℕ) → i < length a → length a ≡ length b → (get_or a i 0 ≡ get_or b i 0 → ⊥) → same (drop i a) (drop i b) ≡ false
-  unfolding same
-  same_not i h l e =
-      let k : i < length b = omega arith in
-      rw (drop-cons a i 0 h, drop-cons b i 0 k, ne_eqb (get_or a i 0) (get_or b i 0) e)
-
-  pub same_end : (i : ℕ) → length a ≤ i → length a ≡ length b → same (drop i a) (drop i b) ≡ true
-  unfolding same
-  same_end i h l = let k : length b ≤ i = omega arith in rw (drop_of_length-le a h, drop_of_length-le b k)
 
 same_by : (t : Bool) (x y : ℕ) (xs ys : List ℕ) → eqb x y ≡ t → pick t (same xs ys) false ≡ true → (x ≡ y) × (same xs ys ≡ true)
 same_by true x y xs ys e f = (eqb-true x y e, f)
@@ -85,9 +70,36 @@ unfolding same
 equal-same [] = refl
 equal-same (x ∷ a) = rw (eq-eqb x x refl) (equal-same a)
 
-lengths : (a b : List ℕ) → (length a ≡ length b → ⊥) → (t : Bool) → same a b ≡ t → t ≡ false
-lengths a b h true e = absurd (h (ap length (same-equal a b e)))
-lengths a b h false e = refl
+-- a test that tells whether two texts are equal is `same`
+same-is : (a b : List ℕ) (r t : Bool) → Decides r (a ≡ b) → same a b ≡ t → r ≡ t
+same-is a b r true d e = d.1 (same-equal a b e)
+same-is a b true false d e = absurd (let s : same a b ≡ true = rw (d.0 refl) (equal-same b) in let z : ◌≡◌ {A = ℕ} 0 1 = cc in omega arith)
+same-is a b false false d e = refl
 
-pub same-lengths : (a b : List ℕ) → (length a ≡ length b → ⊥) → false ≡ same a b
-same-lengths a b h = sym (lengths a b h (same a b) refl)
+pub same-decided : (a b : List ℕ) (r : Bool) → Decides r (a ≡ b) → r ≡ same a b
+same-decided a b r d = same-is a b r (same a b) d refl
+
+-- ---- every letter of a text
+
+all-by : (t : Bool) (p : ℕ → Bool) (s : List ℕ) → list_all p s ≡ all p s → (t && list_all p s) ≡ pick t (all p s) false
+all-by true p s e = e
+all-by false p s e = refl
+
+pub list_all-is : (p : ℕ → Bool) (s : List ℕ) → list_all p s ≡ all p s
+unfolding all
+list_all-is p [] = refl
+list_all-is p (x ∷ s) = all-by (p x) p s (list_all-is p s)
+
+both : (a b : Bool) → pick a b false ≡ true → (a ≡ true) × (b ≡ true)
+both true b e = (refl, e)
+both false b e = absurd (let z : ◌≡◌ {A = ℕ} 0 1 = cc in omega arith)
+
+pub all_cons : (p : ℕ → Bool) (x : ℕ) (s : List ℕ) → all p (x ∷ s) ≡ true → (p x ≡ true) × (all p s ≡ true)
+unfolding all
+all_cons p x s e = both (p x) (all p s) e
+
+-- where all letters pass, each does
+pub all_at : (p : ℕ → Bool) (s : List ℕ) (i : ℕ) → all p s ≡ true → i < length s → p (get_or s i 0) ≡ true
+all_at p [] i e h = absurd (omega arith)
+all_at p (x ∷ s) zero e h = (all_cons p x s e).0
+all_at p (x ∷ s) (suc i) e h = all_at p s i (all_cons p x s e).1 (omega arith)

@@ -1,13 +1,19 @@
 -- BYTES = - | PART{.PART}, PART = HEX | HHxDIGITS | HH~DIGITS. Assumes nothing.
-use Rattle.std.specs.Prelude.{ℕ, zero, suc, ◌+◌, ◌-◌, ◌*◌, ◌%◌, Bool, true, false, List, [], ◌∷◌, ◌++◌, map, length, get_or, take, drop, eqb, ltb, leb, ◌≡◌}
+use Rattle.std.specs.Prelude.{ℕ, zero, suc, ◌+◌, ◌-◌, ◌*◌, ◌%◌, Bool, true, false, List, [], ◌∷◌, ◌++◌, map, length, get_or, take, drop, eqb, ltb, leb, ◌≡◌, Result, Ok, Err}
 use Prim.Native.Char.{code}
 use Rattle.words.specs.Choice.{pick}
 use Rattle.words.specs.Lists.{all, splice}
 use Rattle.script.specs.Ascii.{ascii}
 use Rattle.script.specs.Words.{same}
 use Rattle.script.specs.Numbers.{digit, value_of}
-use Rattle.script.specs.declared.Bytes.{Bytes}
-use Rattle.script.specs.declared.Bytes.TheVariants.{To, NotBytes, TooMany}
+use Rattle.script.specs.declared.NumberFault.{NumberFault}
+use Rattle.script.specs.declared.NumberFault.TheVariants.{NotANumber, TooLarge}
+use Rattle.script.specs.declared.BytesFault.{BytesFault}
+use Rattle.script.specs.declared.BytesFault.TheVariants.{NotBytes, TooMany}
+
+-- the place after the bytes, or why there are none
+abbrev pub Bytes : Type 0
+Bytes = Result ℕ BytesFault
 
 -- what a hex digit stands for, in lower case; 16 where there is none
 abbrev pub hex_of : ℕ → ℕ
@@ -77,14 +83,14 @@ behind bs o = record { told = bs ++ o.told; answer = o.answer }
 
 -- part after part, from place `at` of so much room on; the first that is faulty or has no room ends it
 unfoldable pub outcome : ℕ → ℕ → List Spelt → Outcome
-outcome room at [] = record { told = []; answer = To at }
-outcome room at (faulty ∷ ps) = record { told = []; answer = NotBytes }
+outcome room at [] = record { told = []; answer = Ok at }
+outcome room at (faulty ∷ ps) = record { told = []; answer = Err NotBytes }
 outcome room at (bytes bs ∷ ps) =
-    pick (leb (at + length bs) room) (behind bs (outcome room (at + length bs) ps)) (record { told = []; answer = TooMany })
+    pick (leb (at + length bs) room) (behind bs (outcome room (at + length bs) ps)) (record { told = []; answer = Err TooMany })
 
 -- `-` is no bytes
 unfoldable pub bytes_of : ℕ → List ℕ → Outcome
-bytes_of room s = pick (same s (ascii "-")) (record { told = []; answer = To 0 }) (outcome room 0 (map part_of (parts_of s)))
+bytes_of room s = pick (same s (ascii "-")) (record { told = []; answer = Ok 0 }) (outcome room 0 (map part_of (parts_of s)))
 
 -- what stands in the lent bytes after the call, and its answer
 pub record Fills (o : Outcome) (out out' : List ℕ) (r : Bytes) : Type 0 where
@@ -93,9 +99,14 @@ pub record Fills (o : Outcome) (out out' : List ℕ) (r : Bytes) : Type 0 where
 
 -- ---- what promises of private functions cite: one part, set down at a place
 
+-- a count that is no number spells no bytes, and one that is too large spells too many
+abbrev pub bytes_fault : NumberFault → BytesFault
+bytes_fault NotANumber = NotBytes
+bytes_fault TooLarge = TooMany
+
 abbrev pub part_answer : Spelt → ℕ → ℕ → Bytes
-part_answer faulty room at = NotBytes
-part_answer (bytes bs) room at = pick (leb (at + length bs) room) (To (at + length bs)) TooMany
+part_answer faulty room at = Err NotBytes
+part_answer (bytes bs) room at = pick (leb (at + length bs) room) (Ok (at + length bs)) (Err TooMany)
 
 abbrev pub part_left : Spelt → ℕ → List ℕ → List ℕ
 part_left faulty at out = out

@@ -4,8 +4,6 @@ use Prim.Native.Char.{code}
 use Rattle.words.specs.Choice.{pick}
 use Rattle.words.specs.Lists.{first}
 use Rattle.script.specs.declared.Word.{Word}
-use Rattle.script.specs.declared.Sought.{Sought}
-use Rattle.script.specs.declared.Sought.TheVariants.{Newline, Letter, Stop, Sign, Point}
 
 -- what ends a line
 abbrev pub newline : ℕ → Bool
@@ -22,14 +20,6 @@ stop c = pick (eqb c (code "#")) true (blank c)
 -- + or -
 abbrev pub sign : ℕ → Bool
 sign c = pick (eqb c (code "+")) true (eqb c (code "-"))
-
--- what a search looks for
-abbrev pub sought : Sought → ℕ → Bool
-sought Newline c = newline c
-sought Letter c = not (blank c)
-sought Stop c = stop c
-sought Sign c = sign c
-sought Point c = eqb c (code ".")
 
 -- the place of the first such letter from a place on, or the end
 unfoldable pub until : (ℕ → Bool) → List ℕ → ℕ → ℕ

@@ -2,106 +2,77 @@
 // A line of a script taken apart: its words, and the numbers and bytes that words spell.
 //
 // Every function answers for every input, in time that grows with the input's length alone.
-ghost use Rattle.std.specs.Prelude.{◌≡◌, true, ◌+◌, ◌%◌, ◌≤◌, ◌<◌, length};
+ghost use Rattle.std.specs.Prelude.{◌≡◌, ℕ, Bool, true, false, eqb, ◌+◌, ◌*◌, ◌-◌, ◌%◌, ◌≤◌, ◌<◌, length, Ok};
 ghost use Rattle.words.specs.Lists.{splice, all};
-ghost use Rattle.script.specs.Words.{newline, blank, sought, until as place_of, word_at, letters_of, same};
-ghost use Rattle.script.specs.Numbers.{grown, digits_of, raised, lowered, joined, power_of, number_of};
-ghost use Rattle.script.specs.Bytes.{hex_of, hex, pair_of, pairs_of, then, stretch, plain_of, stretch_of, part_of, Adds, Fills, bytes_of};
+ghost use Rattle.script.specs.Words.{newline, blank, until as place_of, word_at, letters_of, same};
+ghost use Rattle.script.specs.Numbers.{digit, below, digits_of, raised, lowered, joined, power_of, number_of};
+ghost use Rattle.script.specs.Bytes.{hex_of, hex, pair_of, pairs_of, then, stretch, plain_of, stretch_of, part_of, bytes_fault, Adds, Fills, bytes_of};
 
 // A word of a line: the place of its first letter, and the place after its last.
-#[derive(Clone, Copy)]
+#[derive(Clone, Copy, Debug, PartialEq, Eq)]
 pub struct Word {
     pub start: usize,
     pub end: usize,
 }
 
-// What a word spells, where a number is meant.
-#[derive(Clone, Copy)]
-pub enum Number {
-    Value(u64),
+// Why a word spells no number.
+#[derive(Clone, Copy, Debug, PartialEq, Eq)]
+pub enum NumberFault {
     NotANumber,
     TooLarge,
 }
 
-// What a word spells, where bytes are meant: the place after them.
-#[derive(Clone, Copy)]
-pub enum Bytes {
-    To(usize),
+// Why a word spells no bytes that were set down.
+#[derive(Clone, Copy, Debug, PartialEq, Eq)]
+pub enum BytesFault {
     NotBytes,
     TooMany,
 }
 
-// What a search looks for: a newline, a letter that is no blank, the end of a word, a sign, a point.
-#[derive(Clone, Copy)]
-enum Sought {
-    Newline,
-    Letter,
-    Stop,
-    Sign,
-    Point,
+// A count that is no number spells no bytes, and one that is too large spells too many.
+impl From<NumberFault> for BytesFault {
+    ghost from_gives = { λ f g. g ≡ bytes_fault f };
+
+    fn from(fault: NumberFault) -> BytesFault {
+        match fault {
+            NumberFault::NotANumber => BytesFault::NotBytes,
+            NumberFault::TooLarge => BytesFault::TooMany,
+        }
+    }
 }
 
 fn is_blank(c: u8) -> bool
     ensures { result ≡ blank c }
 {
-    if c == b' ' {
-        return true;
-    }
-    if c == b'\t' {
-        return true;
-    }
-    c == b'\r'
+    matches!(c, b' ' | b'\t' | b'\r')
 }
 
-fn is_sought(what: Sought, c: u8) -> bool
-    ensures { result ≡ sought what c }
+// The place of the first letter that passes a test, from a place on, or the end.
+fn until<P: Fn(u8) -> bool>(s: &[u8], from: usize, passes: P) -> usize
+    requires { P.IsAlwaysCallable passes }
+    ensures { (p : ℕ → Bool) → ((c : ℕ) (r : Bool) → P.post passes c r → r ≡ p c) → result ≡ place_of p s.now from }
 {
-    match what {
-        Sought::Newline => c == b'\n',
-        Sought::Letter => !is_blank(c),
-        Sought::Stop => {
-            if c == b'#' {
-                return true;
-            }
-            is_blank(c)
-        }
-        Sought::Sign => {
-            if c == b'+' {
-                return true;
-            }
-            c == b'-'
-        }
-        Sought::Point => c == b'.',
-    }
-}
-
-// The place of the first such letter from a place on, or the end.
-fn until(s: &[u8], from: usize, what: Sought) -> usize
-    ensures { result ≡ place_of (sought what) s.now from }
-{
-    let mut i = from;
-    while i < s.len() {
-        if is_sought(what, s[i]) {
+    for i in from..s.len() {
+        if passes(s[i]) {
             return i;
         }
-        i += 1;
     }
-    i
+    from.max(s.len())
 }
 
 // The end of the line at a place of a text: its newline, or the end of the text.
 pub fn line_end(text: &[u8], from: usize) -> usize
     ensures { result ≡ place_of newline text.now from }
 {
-    until(text, from, Sought::Newline)
+    until(text, from, |c| c == b'\n')
 }
 
 // The next word from a place on. At a comment and at the end of the line it has no letter.
 pub fn next_word(line: &[u8], from: usize) -> Word
     ensures { result ≡ word_at line.now from }
 {
-    let start = until(line, from, Sought::Letter);
-    let end = until(line, start, Sought::Stop);
+    let start = until(line, from, |c| !is_blank(c));
+    let end = until(line, start, |c| c == b'#' || is_blank(c));
     Word { start, end }
 }
 
@@ -109,17 +80,8 @@ pub fn next_word(line: &[u8], from: usize) -> Word
 pub fn letters(line: &[u8], w: Word) -> &[u8]
     ensures { result.now ≡ letters_of line.now w }
 {
-    let start = w.start;
-    let end = w.end;
-    if line.len() < start {
-        return &line[..0];
-    }
-    if end < start {
-        return &line[..0];
-    }
-    if line.len() < end {
-        return &line[start..];
-    }
+    let end = w.end.min(line.len());
+    let start = w.start.min(end);
     &line[start..end]
 }
 
@@ -127,185 +89,135 @@ pub fn letters(line: &[u8], w: Word) -> &[u8]
 pub fn is(text: &[u8], name: &[u8]) -> bool
     ensures { result ≡ same text.now name.now }
 {
-    if text.len() != name.len() {
-        return false;
-    }
-    let mut i = 0;
-    while i < text.len() {
-        if text[i] != name[i] {
-            return false;
-        }
-        i += 1;
-    }
-    true
+    text == name
 }
 
-// A byte as a number that can be added to.
-fn wide(b: u8) -> u64
-    ensures { (result ≡ b) × (result < 256) }
+// What digits stand for with one digit more.
+fn grow(v: u64, c: u8) -> Result<u64, NumberFault>
+    requires { digit c ≡ true }
+    ensures { result ≡ below (v * 10 + (c - 48)) }
 {
-    b as u64
+    let d = u64::from(c - b'0');
+    let grown = v.checked_mul(10).and_then(|tens| tens.checked_add(d));
+    grown.ok_or(NumberFault::TooLarge)
 }
 
-// What digits stand for with one letter more.
-fn grow(n: Number, c: u8) -> Number
-    ensures { result ≡ grown n c }
+fn all_digits(s: &[u8]) -> bool
+    ensures { result ≡ all digit s.now }
 {
-    if c < b'0' {
-        return Number::NotANumber;
-    }
-    if b'9' < c {
-        return Number::NotANumber;
-    }
-    let Number::Value(v) = n else {
-        return n;
-    };
-    if u64::MAX / 10 < v {
-        return Number::TooLarge;
-    }
-    let tens = v * 10;
-    let d = wide(c - b'0');
-    if u64::MAX - tens < d {
-        return Number::TooLarge;
-    }
-    Number::Value(tens + d)
+    s.iter().all(|c| c.is_ascii_digit())
 }
 
 // DIGITS: a number of decimal digits alone.
-fn digits(s: &[u8]) -> Number
+fn digits(s: &[u8]) -> Result<u64, NumberFault>
     ensures { result ≡ digits_of s.now }
 {
-    if s.len() == 0 {
-        return Number::NotANumber;
+    if s.is_empty() || !all_digits(s) {
+        return Err(NumberFault::NotANumber);
     }
-    let mut n = Number::Value(0);
-    let mut i = 0;
-    while i < s.len() {
-        n = grow(n, s[i]);
-        i += 1;
+    let mut v = 0;
+    for c in s {
+        v = grow(v, *c)?;
     }
-    n
+    Ok(v)
+}
+
+// The number, where it is below 2^64.
+fn fitting(n: u128) -> Result<u64, NumberFault>
+    ensures { result ≡ below n }
+{
+    u64::try_from(n).map_err(|_| NumberFault::TooLarge)
 }
 
 // 2^k and d more.
-fn raise(k: u64, d: u64) -> Number
+fn raise(k: u64, d: u64) -> Result<u64, NumberFault>
     ensures { result ≡ raised k d }
 {
-    if 63 < k {
-        return Number::TooLarge;
+    if 64 < k {
+        return Err(NumberFault::TooLarge);
     }
-    let p = 1 << k;
-    if u64::MAX - p < d {
-        return Number::TooLarge;
-    }
-    Number::Value(p + d)
+    fitting((1 << k) + u128::from(d))
 }
 
 // 2^k and d fewer. 2^64 itself is no u64, but with one or more fewer it is.
-fn lower(k: u64, d: u64) -> Number
+fn lower(k: u64, d: u64) -> Result<u64, NumberFault>
     ensures { result ≡ lowered k d }
 {
     if 64 < k {
-        return Number::TooLarge;
+        return Err(NumberFault::TooLarge);
     }
-    if k == 64 {
-        if d == 0 {
-            return Number::TooLarge;
-        }
-        return Number::Value(u64::MAX - (d - 1));
-    }
-    let p = 1 << k;
+    let p: u128 = 1 << k;
+    let d = u128::from(d);
     if p < d {
-        return Number::NotANumber;
+        return Err(NumberFault::NotANumber);
     }
-    Number::Value(p - d)
+    fitting(p - d)
 }
 
 // Of two DIGITS the form of both is judged before the size of either.
-fn join(minus: bool, k: Number, d: Number) -> Number
+fn join(
+    minus: bool,
+    k: Result<u64, NumberFault>,
+    d: Result<u64, NumberFault>,
+) -> Result<u64, NumberFault>
     ensures { result ≡ joined minus k d }
 {
-    if let Number::NotANumber = k {
+    if let Err(NumberFault::NotANumber) = k {
         return k;
     }
-    let Number::Value(y) = d else {
-        return d;
-    };
-    let Number::Value(x) = k else {
-        return k;
-    };
-    if minus {
-        return lower(x, y);
-    }
-    raise(x, y)
+    let y = d?;
+    let x = k?;
+    if minus { lower(x, y) } else { raise(x, y) }
 }
 
 // What stands behind 2^.
-fn power(s: &[u8]) -> Number
+fn power(s: &[u8]) -> Result<u64, NumberFault>
     ensures { result ≡ power_of s.now }
 {
-    let i = until(s, 0, Sought::Sign);
+    let i = until(s, 0, |c| c == b'+' || c == b'-');
     if s.len() <= i {
-        return join(false, digits(s), Number::Value(0));
+        return join(false, digits(s), Ok(0));
     }
     let minus = s[i] == b'-';
     let k = digits(&s[..i]);
-    let after = i + 1;
-    let d = digits(&s[after..]);
+    let d = digits(&s[i + 1..]);
     join(minus, k, d)
 }
 
 // The number that a word spells: 37, 2^62, 2^62-1 or 2^62+1, below 2^64.
-pub fn number_of(text: &[u8]) -> Number
+pub fn number_of(text: &[u8]) -> Result<u64, NumberFault>
     ensures { result ≡ number_of text.now }
 {
-    if text.len() < 2 {
-        return digits(text);
+    match text {
+        [b'2', b'^', rest @ ..] => power(rest),
+        _ => digits(text),
     }
-    if text[0] != b'2' {
-        return digits(text);
-    }
-    if text[1] != b'^' {
-        return digits(text);
-    }
-    power(&text[2..])
 }
 
-// The value of a hex digit in lower case, or 16.
-fn hex_digit(c: u8) -> u8
-    ensures { (result ≡ hex_of c) × (result ≤ 16) }
+// Whether a letter is a hex digit in lower case.
+fn is_hex(c: u8) -> bool
+    ensures { result ≡ hex c }
 {
-    if c < b'0' {
-        return 16;
-    }
-    if c <= b'9' {
-        return c - b'0';
-    }
-    if c < b'a' {
-        return 16;
-    }
-    if b'f' < c {
-        return 16;
-    }
-    c - b'a' + 10
+    matches!(c, b'0'..=b'9' | b'a'..=b'f')
+}
+
+// What a hex digit stands for.
+fn hex_digit(c: u8) -> u8
+    requires { hex c ≡ true }
+    ensures { (result ≡ hex_of c) × (result < 16) }
+{
+    if c <= b'9' { c - b'0' } else { c - b'a' + 10 }
 }
 
 fn all_hex(s: &[u8]) -> bool
     ensures { result ≡ all hex s.now }
 {
-    let mut i = 0;
-    while i < s.len() {
-        if hex_digit(s[i]) == 16 {
-            return false;
-        }
-        i += 1;
-    }
-    true
+    s.iter().all(|c| is_hex(*c))
 }
 
 // The byte of two hex digits.
 fn pair(h: u8, l: u8) -> u8
-    requires { (hex_of h < 16) × (hex_of l < 16) }
+    requires { (hex h ≡ true) × (hex l ≡ true) }
     ensures { result ≡ pair_of h l }
 {
     hex_digit(h) * 16 + hex_digit(l)
@@ -316,34 +228,25 @@ fn write_pairs(s: &[u8], out: &mut [u8], at: usize) -> usize
     requires { (length s.now % 2 ≡ 0) × (all hex s.now ≡ true) × (at + length (pairs_of s.now) ≤ length out.old) }
     ensures { (result ≡ at + length (pairs_of s.now)) × (out.new ≡ splice at (pairs_of s.now) out.old) }
 {
-    let mut to = at;
-    let mut i = 0;
-    while i < s.len() {
-        out[to] = pair(s[i], s[i + 1]);
-        to += 1;
-        i += 2;
+    let n = s.len() / 2;
+    for i in 0..n {
+        out[at + i] = pair(s[2 * i], s[2 * i + 1]);
     }
-    to
+    at + n
 }
 
 // Sets down a part of hex digits alone.
-fn plain(s: &[u8], out: &mut [u8], at: usize) -> Bytes
+fn plain(s: &[u8], out: &mut [u8], at: usize) -> Result<usize, BytesFault>
     requires { at ≤ length out.old }
     ensures { Adds (plain_of s.now) at out.old out.new result }
 {
-    if s.len() == 0 {
-        return Bytes::NotBytes;
-    }
-    if s.len() % 2 != 0 {
-        return Bytes::NotBytes;
-    }
-    if !all_hex(s) {
-        return Bytes::NotBytes;
+    if s.is_empty() || s.len() % 2 != 0 || !all_hex(s) {
+        return Err(BytesFault::NotBytes);
     }
     if out.len() - at < s.len() / 2 {
-        return Bytes::TooMany;
+        return Err(BytesFault::TooMany);
     }
-    Bytes::To(write_pairs(s, out, at))
+    Ok(write_pairs(s, out, at))
 }
 
 // The next byte of a stretch: up, after fa and after ff 00; or the same.
@@ -353,13 +256,10 @@ pub fn follow(up: bool, b: u8) -> u8
     if !up {
         return b;
     }
-    if b == 0xfa {
-        return 0;
+    match b {
+        0xfa | 0xff => 0,
+        _ => b + 1,
     }
-    if b == 0xff {
-        return 0;
-    }
-    b + 1
 }
 
 // Sets a stretch down where there is room for it.
@@ -368,76 +268,53 @@ fn write_stretch(out: &mut [u8], at: usize, up: bool, b: u8, n: usize) -> usize
     ensures { (result ≡ at + n) × (out.new ≡ splice at (stretch up b n) out.old) }
 {
     let mut x = b;
-    let mut i = 0;
-    while i < n {
+    for i in 0..n {
         out[at + i] = x;
         x = follow(up, x);
-        i += 1;
     }
-    at + i
+    at + n
 }
 
 // Sets down a part that is a stretch.
-fn stretched(s: &[u8], out: &mut [u8], at: usize, up: bool) -> Bytes
+fn stretched(s: &[u8], out: &mut [u8], at: usize, up: bool) -> Result<usize, BytesFault>
     requires { at ≤ length out.old }
     ensures { Adds (stretch_of up s.now) at out.old out.new result }
 {
-    if s.len() <= 3 {
-        return Bytes::NotBytes;
+    if s.len() <= 3 || !all_hex(&s[..2]) {
+        return Err(BytesFault::NotBytes);
     }
-    if !all_hex(&s[..2]) {
-        return Bytes::NotBytes;
+    let n = digits(&s[3..])?;
+    let room = out.len() - at;
+    if (room as u64) < n {
+        return Err(BytesFault::TooMany);
     }
-    match digits(&s[3..]) {
-        Number::NotANumber => Bytes::NotBytes,
-        Number::TooLarge => Bytes::TooMany,
-        Number::Value(n) => {
-            let room = out.len() - at;
-            if (room as u64) < n {
-                return Bytes::TooMany;
-            }
-            let b = pair(s[0], s[1]);
-            Bytes::To(write_stretch(out, at, up, b, n as usize))
-        }
-    }
+    let b = pair(s[0], s[1]);
+    Ok(write_stretch(out, at, up, b, n as usize))
 }
 
 // Sets down one part.
-fn part(s: &[u8], out: &mut [u8], at: usize) -> Bytes
+fn part(s: &[u8], out: &mut [u8], at: usize) -> Result<usize, BytesFault>
     requires { at ≤ length out.old }
     ensures { Adds (part_of s.now) at out.old out.new result }
 {
-    if s.len() <= 2 {
-        return plain(s, out, at);
+    match s {
+        [_, _, b'x', ..] => stretched(s, out, at, false),
+        [_, _, b'~', ..] => stretched(s, out, at, true),
+        _ => plain(s, out, at),
     }
-    let sign = s[2];
-    if sign == b'x' {
-        return stretched(s, out, at, false);
-    }
-    if sign == b'~' {
-        return stretched(s, out, at, true);
-    }
-    plain(s, out, at)
 }
 
 // The bytes that a word spells, set down at the front of what is lent. Where a part is faulty or
 // there is no room for it, those of the parts before it are set down.
-pub fn bytes_of(text: &[u8], out: &mut [u8]) -> Bytes
+pub fn bytes_of(text: &[u8], out: &mut [u8]) -> Result<usize, BytesFault>
     ensures { Fills (bytes_of (length out.old) text.now) out.old out.new result }
 {
     if is(text, b"-") {
-        return Bytes::To(0);
+        return Ok(0);
     }
     let mut at = 0;
-    let mut from = 0;
-    while from <= text.len() {
-        let end = until(text, from, Sought::Point);
-        let p = part(&text[from..end], out, at);
-        let Bytes::To(next) = p else {
-            return p;
-        };
-        at = next;
-        from = end + 1;
+    for word in text.split(|c| *c == b'.') {
+        at = part(word, out, at)?;
     }
-    Bytes::To(at)
+    Ok(at)
 }

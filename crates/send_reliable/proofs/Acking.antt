@@ -1,50 +1,108 @@
 -- The row of an id, and what acknowledgements give. Assumes nothing.
-use Prim.Native.Nat.{ℕ, ◌+◌, ◌<◌}
+use Prim.Native.Nat.{ℕ, suc, ◌-◌, ◌+◌, ◌≤◌, ◌<◌}
 use mathlib.Core.Path.{◌≡◌, refl, sym, ap, ◌∙◌}
 use mathlib.Core.Bool.{Bool, true, false}
-use borrow.Author.Tests.{ltb-true, leb-false, eqb-false, lt-leb, eq-eqb, ne_eqb}
-use lib.Dec.{ltb, leb, eqb}
-use lib.ListN.{get_or, set}
+use mathlib.Core.List.{List, [], ◌∷◌, ◌++◌, append_assoc}
+use native.Mathlib.Omega.{arith}
+use borrow.Author.Tests.{ltb-true, eqb-false, le-leb, lt-leb, eq-eqb, ne_eqb}
+use lib.Dec.{ltb, eqb}
+use lib.ListN.{length, get_or, set, take, drop, length-drop}
+use lib.Seq.{get_or-take, paste, length-paste, length-take-le, take_all}
+use Rattle.std.proofs.lemmas.List.{set_split, drop-drop, drop_all}
+use Rattle.std.proofs.lemmas.List.Edits.{drop-paste}
+use Rattle.words.proofs.Lists.{live-less}
+use Rattle.std.specs.Prelude.{Option, None, Some, Result, Ok, Err}
 use Rattle.words.specs.Sizes.{LIMIT}
 use Rattle.words.specs.Choice.{pick}
 use Rattle.words.specs.Pieces.{pieces_of}
-use Rattle.words.proofs.Tables.{clash, by-test, pick-cases}
-use Rattle.send_reliable.specs.declared.Sending.{Sending}
-use Rattle.send_reliable.specs.declared.Kind.{Kind}
+use Rattle.words.specs.declared.Refusal.{Refusal}
+use Rattle.words.specs.declared.Refusal.TheVariants.{BadNumber, WrongKind, BadIndex}
+use Rattle.words.proofs.Tables.{pick-cases}
 use Rattle.send_reliable.specs.declared.Kind.TheVariants.{Small, Sliced}
 use Rattle.send_reliable.specs.declared.Row.{Row}
 use Rattle.send_reliable.specs.declared.SendChannelReliable.{SendChannelReliable}
-use Rattle.send_reliable.specs.declared.Found.{Found}
-use Rattle.send_reliable.specs.declared.Found.TheVariants as found
 use Rattle.send_reliable.specs.declared.Ack.{Ack}
 use Rattle.send_reliable.specs.declared.Ack.TheVariants as ack
-use Rattle.send_reliable.specs.declared.AckSmall.{AckSmall}
-use Rattle.send_reliable.specs.declared.AckSmall.TheVariants as small
-use Rattle.send_reliable.specs.declared.AckPiece.{AckPiece}
-use Rattle.send_reliable.specs.declared.AckPiece.TheVariants as piece
-use Rattle.send_reliable.specs.Sender.{kind_of, no_row, piece_at, Valid}
-use Rattle.send_reliable.specs.Ack.{row_of, without, ack_of, done, unknown, refused, After, after, ack_row, small_kind, ack_small, marked, with_ack, piece_kind_of, ack_piece, AckGives}
-use Rattle.send_reliable.specs.QueueSteps.{found_of, RowAt, on_found, small_as, small_step, piece_as, piece_step, ShortFound}
-use Rattle.send_reliable.proofs.Valid.{row-short, without-small-valid, without-sliced-valid, marked-valid}
+use Rattle.send_reliable.specs.Sender.{Sending, kind_of, no_row, live, piece_at, Valid}
+use Rattle.words.specs.Lists.{without as less}
+use Rattle.send_reliable.specs.Ack.{row_of, closed, without, ack_of, done, After, after, ack_row, ack_small, marked, with_ack, ack_piece, AckGives}
+use Rattle.send_reliable.specs.QueueSteps.{found_of, RowAt, Waits}
+use Rattle.send_reliable.proofs.Valid.{rows-room, live-long, without-small-valid, without-sliced-valid, marked-valid}
+
+-- ---- the rows that wait close up, and those after them stay
+
+module _ {A : Type 0} (o : List A) (k n : ℕ) (z : A) where
+  closed-parts : k < n → n ≤ length o → set (paste o k (drop (suc k) o) (n - 1 - k)) (n - 1) z ≡ less k (take n o) ++ (z ∷ drop n o)
+  closed-parts low long =
+      let m : ℕ = n - 1 - k in
+      let p : List A = paste o k (drop (suc k) o) m in
+      let i : k + m ≡ n - 1 = omega arith in
+      let j : suc (n - 1) ≡ n = omega arith in
+      let q : n - 1 + 1 ≡ n = omega arith in
+      let r : m ≤ length (drop (suc k) o) = simp length-drop (omega arith) in
+      let e : drop (n - 1) p ≡ drop (n - 1) o = ap (λ (x : ℕ). drop x p) (sym i) ∙ drop-paste o k (drop (suc k) o) m (omega arith) r ∙ ap (λ (x : ℕ). drop x o) i in
+      let f : drop n p ≡ drop n o = ap (λ (x : ℕ). drop x p) (sym q) ∙ sym (drop-drop 1 (n - 1) p) ∙ ap (drop 1) e ∙ drop-drop 1 (n - 1) o ∙ ap (λ (x : ℕ). drop x o) q in
+      set_split p (n - 1) z (omega (arith, length-paste o k (drop (suc k) o) m (omega arith) r))
+      ∙ rw (live-less o k n low long, j, f)
+
+pub closed-front : (rows : List Row) (k n : ℕ) → k < n → n ≤ length rows → closed (take n rows) k (length (take n rows)) ++ drop n rows ≡ closed rows k n
+closed-front rows k n low long =
+    let t : List Row = take n rows in
+    let l : length t ≡ n = length-take-le n rows long in
+    let a : take n t ≡ t = take_all n t (omega arith) in
+    let b : drop n t ≡ [] = drop_all n t (omega arith) in
+    rw (l, closed-parts t k n no_row low (omega arith), a, b, append_assoc, closed-parts rows k n no_row low long)
+
+-- the state with some other rows, n of them waiting, and these cells and lanes
+abbrev pub with_rows : SendChannelReliable → ℕ → List Row → ℕ → List Bool → List Bool → SendChannelReliable
+with_rows s used rows n cells lanes =
+    record {
+      channel_id = s.channel_id;
+      settings = s.settings;
+      resend_time = s.resend_time;
+      next_reliable_message_id = s.next_reliable_message_id;
+      memory_usage_bytes = used;
+      latest = s.latest;
+      count = n;
+      rows = rows;
+      cells = cells;
+      lanes = lanes;
+      pieces = s.pieces;
+    }
+
+-- where the waiting rows close up
+module _ (s : SendChannelReliable) (v : Valid s) (k : ℕ) (r : Row) (at : RowAt s k r) (cells lanes : List Bool) where
+  pub taken : (rows : List Row) (n : ℕ) → rows ≡ closed (take s.count s.rows) k (length (take s.count s.rows)) → n ≡ length (take s.count s.rows) - 1
+      → with_rows s (s.memory_usage_bytes - r.len) (rows ++ drop s.count s.rows) n cells lanes ≡ without s k r.len cells lanes
+  taken rows n e f =
+      let room = rows-room s v in
+      let m : n ≡ s.count - 1 = f ∙ ap (λ (x : ℕ). x - 1) (length-take-le s.count s.rows room) in
+      ap (λ (x : List Row). with_rows s (s.memory_usage_bytes - r.len) (x ++ drop s.count s.rows) n cells lanes) e
+      ∙ ap (λ (x : List Row). with_rows s (s.memory_usage_bytes - r.len) x n cells lanes) (closed-front s.rows k s.count at.low room)
+      ∙ ap (λ (x : ℕ). with_rows s (s.memory_usage_bytes - r.len) (closed s.rows k s.count) x cells lanes) m
 
 -- ---- the row that is found
 
-at-tests : (t : Bool) (i k : ℕ) (q r : Row) → pick t (found.At i q) found.Nothing ≡ found.At k r → (t ≡ true) × (i ≡ k) × (q ≡ r)
-at-tests true i k q r e = (refl, cc, cc)
-at-tests false i k q r e = clash (cc)
+pub bad-number : (s : SendChannelReliable) (x : ℕ) → LIMIT ≤ x → Waits s x (Err BadNumber)
+unfolding ack_row
+bad-number s x h f = rw (le-leb _ _ h)
 
-module _ (s : SendChannelReliable) (x : ℕ) where
-  module _ (k : ℕ) (r : Row) (h : found_of s x ≡ found.At k r) where
-    here : (ltb (row_of s x) s.count ≡ true) × (row_of s x ≡ k) × (get_or s.rows (row_of s x) no_row ≡ r)
+module _ (s : SendChannelReliable) (v : Valid s) (x : ℕ) where
+  module _ (low : x < LIMIT) where
+    here : (t : Bool) → ltb (row_of s x) s.count ≡ t → Waits s x (Ok (pick t (Some (row_of s x, get_or (live s) (row_of s x) no_row)) None))
+    unfolding ack_row
+    here true e =
+        let l = ltb-true _ _ e in
+        let r = get_or-take s.count s.rows (row_of s x) no_row l in
+        (record { low = l; row = sym r }, λ f. rw (lt-leb _ _ low, e, r))
+    here false e = λ f. rw (lt-leb _ _ low, e)
+
+    pub waits : (o : Option (ℕ × Row)) → found_of s x ≡ o → Waits s x (Ok o)
     unfolding found_of
-    here = at-tests (ltb (row_of s x) s.count) (row_of s x) k (get_or s.rows (row_of s x) no_row) r h
+    waits o e = rw (← e, live-long s v) (here (ltb (row_of s x) s.count) refl)
 
-    pub found-row : RowAt s k r
-    found-row = let t = here in record { low = rw (← t.1) (ltb-true _ _ t.0); row = rw (← t.1) t.2 }
-
-  pub row-found : (f : ℕ → Row → After) → x < LIMIT → (k : ℕ) (r : Row) → found_of s x ≡ found.At k r → ack_row s x f ≡ f k r
-  unfolding ack_row
-  row-found f low k r h = let t = here k r h in rw (lt-leb _ _ low, t.0, t.2, t.1)
+    pub row-found : (f : ℕ → Row → After) (k : ℕ) (r : Row) → found_of s x ≡ Some (k, r) → ack_row s x f ≡ f k r
+    row-found f k r e = (waits (Some (k, r)) e).1 f
 
 -- ---- a piece acknowledged keeps what is always true
 
@@ -62,7 +120,7 @@ module _ (s : SendChannelReliable) (v : Valid s) (k : ℕ) (r : Row) (at : RowAt
     unfolding with_ack
     piece-more m = rw (new, ne_eqb _ _ m)
 
-  with-ack-valid : i < pieces_of r.len → Valid (with_ack s k i r l a next)
+  pub with-ack-valid : i < pieces_of r.len → Valid (with_ack s k i r l a next)
   unfolding with_ack
   with-ack-valid m =
       pick-cases Valid (piece_at s l i).acked (λ _. v)
@@ -73,119 +131,53 @@ module _ (s : SendChannelReliable) (v : Valid s) (k : ℕ) (r : Row) (at : RowAt
 
 -- ---- what an acknowledgement gives, by what was found
 
--- the two ways to tell what an ack gives agree
-on-found : {A : Type 0} (s : SendChannelReliable) (x : ℕ) (g : A → After) (bad none : A) (h : ℕ → Row → A) (f : ℕ → Row → After)
-    → g bad ≡ after (refused 13) s → g none ≡ after unknown s → ((k : ℕ) (r : Row) → g (h k r) ≡ f k r)
-    → ack_row s x f ≡ g (on_found bad none h x (found_of s x))
-unfolding ack_row found_of
-on-found s x g bad none h f eb en eh =
-    by-test (ltb (row_of s x) s.count)
-    (λ t. by-test (leb LIMIT x) (λ b. rw (t, b) (sym eb)) (λ b. rw (t, b) (sym (eh (row_of s x) (get_or s.rows (row_of s x) no_row)))))
-    (λ t. by-test (leb LIMIT x) (λ b. rw (t, b) (sym eb)) (λ b. rw (t, b) (sym en)))
+-- an answer that leaves the state
+pub ack-left : (s : SendChannelReliable) → Valid s → (z : After) (a : Result Ack Refusal) → z ≡ after (ack_of a) s → AckGives z (record { answer = a; state = s })
+ack-left s v z a e = record { answer = rw e; state = rw e; valid = v }
 
 module _ (s : SendChannelReliable) (v : Valid s) (x : ℕ) where
-  pub ack-left : (a : Ack) (z : After) → z ≡ after (ack_of a) s → AckGives z (record { answer = a; state = s })
-  ack-left a z e = record { answer = rw e; state = rw e; valid = v }
-
-  -- what was found is no longer than a lane
-  pub short-found : (f : Found) → found_of s x ≡ f → ShortFound f
-  short-found (found.At k r) e = row-short s v k r (found-row s x k r e)
-  short-found found.Nothing e = tt
-
--- ---- a small message
-
-abbrev small_after : SendChannelReliable → AckSmall → After
-small_after s (small.Left a) = after (ack_of a) s
-small_after s (small.Gone k r i) = after done (without s k r.len (set s.cells i false) s.lanes)
-
-small-kind : (s : SendChannelReliable) (k : ℕ) (r : Row) (kind : Kind) → small_after s (small_as k r kind) ≡ small_kind s k r kind
-small-kind s k r (Small i t) = refl
-small-kind s k r (Sliced l a next) = refl
-
--- the message that goes: its row, its cell and its sending
-pub record SmallFound (s : SendChannelReliable) (k : ℕ) (r : Row) (i : ℕ) : Type 0 where
-  pub at : RowAt s k r
-  pub sending : Sending
-  pub kind : kind_of r ≡ Small i sending
-
-module _ (s : SendChannelReliable) (v : Valid s) (x : ℕ) where
-  small_is : ack_small s x ≡ small_after s (small_step x (found_of s x))
+  pub small-refused : (e : Refusal) → Waits s x (Err e) → AckGives (ack_small s x) (record { answer = Err e; state = s })
   unfolding ack_small
-  small_is = on-found s x (small_after s) _ _ _ _ refl refl (λ k r. small-kind s k r (kind_of r))
+  small-refused e w = ack-left s v (ack_small s x) (Err e) (w _)
 
-  gone-kind : (j k : ℕ) (q r : Row) (i : ℕ) (kind : Kind) → kind_of q ≡ kind → found_of s x ≡ found.At j q → small_as j q kind ≡ small.Gone k r i → SmallFound s k r i
-  gone-kind j k q r i (Small h t) e f g =
-      let z : found.At j q ≡ found.At k r = cc in
-      let w : q ≡ r = cc in
-      let m : h ≡ i = cc in
-      record { at = found-row s x k r (f ∙ z); sending = t; kind = rw (← w, ← m) e }
-  gone-kind j k q r i (Sliced l a next) e f g = clash (cc)
+  pub small-unknown : Waits s x (Ok None) → AckGives (ack_small s x) (record { answer = Ok ack.Unknown; state = s })
+  unfolding ack_small
+  small-unknown w = ack-left s v (ack_small s x) (Ok ack.Unknown) (w _)
 
-  gone-found : (f : Found) → found_of s x ≡ f → (k : ℕ) (r : Row) (i : ℕ) → small_step x f ≡ small.Gone k r i → SmallFound s k r i
-  gone-found (found.At j q) f k r i =
-      by-test (leb LIMIT x) (λ b g. clash (let z = rw b at g in cc)) (λ b g. gone-kind j k q r i (kind_of q) refl f (rw b at g))
-  gone-found found.Nothing f k r i = by-test (leb LIMIT x) (λ b g. clash (let z = rw b at g in cc)) (λ b g. clash (let z = rw b at g in cc))
-
-  pub small-left : (a : Ack) → small_step x (found_of s x) ≡ small.Left a → AckGives (ack_small s x) (record { answer = a; state = s })
-  small-left a e = ack-left s v x a (ack_small s x) (small_is ∙ ap (small_after s) e)
-
-  module _ (k : ℕ) (r : Row) (i : ℕ) (e : small_step x (found_of s x) ≡ small.Gone k r i) where
-    pub small-found : SmallFound s k r i
-    small-found = gone-found (found_of s x) refl k r i e
-
-    pub small-done : (t : SendChannelReliable) → t ≡ without s k r.len (set s.cells i false) s.lanes → AckGives (ack_small s x) (record { answer = ack.Done; state = t })
-    small-done t et =
-        let z : ack_small s x ≡ after done (without s k r.len (set s.cells i false) s.lanes) = small_is ∙ ap (small_after s) e in
-        let f = small-found in
-        record { answer = rw z; state = rw z et; valid = rw et (without-small-valid s v k r f.at i f.sending f.kind) }
-
--- ---- a piece
-
-abbrev piece_after : SendChannelReliable → ℕ → AckPiece → After
-piece_after s i (piece.Left a) = after (ack_of a) s
-piece_after s i (piece.Marks k r l a next) = after done (with_ack s k i r l a next)
-
-piece_kind : (s : SendChannelReliable) (k i : ℕ) (r : Row) (kind : Kind) → piece_after s i (piece_as k i r kind) ≡ piece_kind_of s k i r kind
-piece_kind s k i r (Small j t) = refl
-piece_kind s k i r (Sliced l a next) = by-test (leb (pieces_of r.len) i) (λ b. rw b) (λ b. rw b)
-
--- the message whose piece it is, and its kind
-pub record PieceFound (s : SendChannelReliable) (i k : ℕ) (r : Row) (l a next : ℕ) : Type 0 where
-  pub at : RowAt s k r
-  pub kind : kind_of r ≡ Sliced l a next
-  pub low : i < pieces_of r.len
-
-module _ (s : SendChannelReliable) (v : Valid s) (x i : ℕ) where
-  piece_is : ack_piece s x i ≡ piece_after s i (piece_step x i (found_of s x))
+  pub piece-refused : (i : ℕ) (e : Refusal) → Waits s x (Err e) → AckGives (ack_piece s x i) (record { answer = Err e; state = s })
   unfolding ack_piece
-  piece_is = on-found s x (piece_after s i) _ _ _ _ refl refl (λ k r. piece_kind s k i r (kind_of r))
+  piece-refused i e w = ack-left s v (ack_piece s x i) (Err e) (w _)
 
-  marks-kind : (j k : ℕ) (q r : Row) (l a next : ℕ) (kind : Kind) → kind_of q ≡ kind → found_of s x ≡ found.At j q → piece_as j i q kind ≡ piece.Marks k r l a next
-      → PieceFound s i k r l a next
-  marks-kind j k q r l a next (Small h t) e f = λ g. clash (cc)
-  marks-kind j k q r l a next (Sliced m b c) e f =
-      by-test (leb (pieces_of q.len) i) (λ past g. clash (let z = rw past at g in cc))
-      (λ past g.
-      let y : piece.Marks j q m b c ≡ piece.Marks k r l a next = rw past at g in
-      let z : found.At j q ≡ found.At k r = cc in
-      let w : q ≡ r = cc in
-      let n : Sliced m b c ≡ Sliced l a next = cc in
-      record { at = found-row s x k r (f ∙ z); kind = rw (← w) (e ∙ n); low = rw (← w) (leb-false _ _ past) })
+  pub piece-unknown : (i : ℕ) → Waits s x (Ok None) → AckGives (ack_piece s x i) (record { answer = Ok ack.Unknown; state = s })
+  unfolding ack_piece
+  piece-unknown i w = ack-left s v (ack_piece s x i) (Ok ack.Unknown) (w _)
 
-  marks-found : (f : Found) → found_of s x ≡ f → (k : ℕ) (r : Row) (l a next : ℕ) → piece_step x i f ≡ piece.Marks k r l a next → PieceFound s i k r l a next
-  marks-found (found.At j q) f k r l a next =
-      by-test (leb LIMIT x) (λ b g. clash (let z = rw b at g in cc)) (λ b g. marks-kind j k q r l a next (kind_of q) refl f (rw b at g))
-  marks-found found.Nothing f k r l a next = by-test (leb LIMIT x) (λ b g. clash (let z = rw b at g in cc)) (λ b g. clash (let z = rw b at g in cc))
+  module _ (k : ℕ) (r : Row) (w : Waits s x (Ok (Some (k, r)))) where
+    -- the ack of a small message
+    pub small-wrong : (l a next : ℕ) → kind_of r ≡ Sliced l a next → AckGives (ack_small s x) (record { answer = Err WrongKind; state = s })
+    unfolding ack_small
+    small-wrong l a next e = ack-left s v (ack_small s x) (Err WrongKind) (w.1 _ ∙ rw e)
 
-  pub piece-left : (a : Ack) → piece_step x i (found_of s x) ≡ piece.Left a → AckGives (ack_piece s x i) (record { answer = a; state = s })
-  piece-left a e = ack-left s v x a (ack_piece s x i) (piece_is ∙ ap (piece_after s i) e)
+    pub small-done : (i : ℕ) (t : Sending) → kind_of r ≡ Small i t → (s' : SendChannelReliable) → s' ≡ without s k r.len (set s.cells i false) s.lanes
+        → AckGives (ack_small s x) (record { answer = Ok ack.Done; state = s' })
+    unfolding ack_small
+    small-done i t e s' es =
+        let z : ack_small s x ≡ after done (without s k r.len (set s.cells i false) s.lanes) = w.1 _ ∙ rw e in
+        record { answer = rw z; state = rw z es; valid = rw es (without-small-valid s v k r w.0 i t e) }
 
-  module _ (k : ℕ) (r : Row) (l a next : ℕ) (e : piece_step x i (found_of s x) ≡ piece.Marks k r l a next) where
-    pub piece-found : PieceFound s i k r l a next
-    piece-found = marks-found (found_of s x) refl k r l a next e
+    -- the ack of a piece
+    module _ (i : ℕ) where
+      pub piece-wrong : (j : ℕ) (t : Sending) → kind_of r ≡ Small j t → AckGives (ack_piece s x i) (record { answer = Err WrongKind; state = s })
+      unfolding ack_piece
+      piece-wrong j t e = ack-left s v (ack_piece s x i) (Err WrongKind) (w.1 _ ∙ rw e)
 
-    pub piece-done : (t : SendChannelReliable) → t ≡ with_ack s k i r l a next → AckGives (ack_piece s x i) (record { answer = ack.Done; state = t })
-    piece-done t et =
-        let z : ack_piece s x i ≡ after done (with_ack s k i r l a next) = piece_is ∙ ap (piece_after s i) e in
-        let f = piece-found in
-        record { answer = rw z; state = rw z et; valid = rw et (with-ack-valid s v k r f.at l a next f.kind i f.low) }
+      module _ (l a next : ℕ) (e : kind_of r ≡ Sliced l a next) where
+        pub piece-past : pieces_of r.len ≤ i → AckGives (ack_piece s x i) (record { answer = Err BadIndex; state = s })
+        unfolding ack_piece
+        piece-past h = ack-left s v (ack_piece s x i) (Err BadIndex) (w.1 _ ∙ rw (e, le-leb _ _ h))
+
+        pub piece-done : i < pieces_of r.len → (s' : SendChannelReliable) → s' ≡ with_ack s k i r l a next → AckGives (ack_piece s x i) (record { answer = Ok ack.Done; state = s' })
+        unfolding ack_piece
+        piece-done h s' es =
+            let z : ack_piece s x i ≡ after done (with_ack s k i r l a next) = w.1 _ ∙ rw (e, lt-leb _ _ h) in
+            record { answer = rw z; state = rw z es; valid = rw es (with-ack-valid s v k r w.0 l a next e i h) }

@@ -17,15 +17,13 @@ use Rattle.words.proofs.Tables.{pick-cases}
 use Rattle.pack.specs.Pack.{Item, payload}
 use Rattle.pack.specs.Round.{Sums, Outcome, sent, refused, went_of, sums}
 use Rattle.pack.specs.declared.Written.{Written}
-use Rattle.pack.specs.declared.Went.{Went}
-use Rattle.pack.specs.declared.Went.TheVariants as went
+use Rattle.std.specs.Prelude.{Result, Ok, Err}
 use Rattle.pack.proofs.Theorems.{payload-kept}
 use Rattle.pack.proofs.Round.{one-went}
 use Rattle.send_reliable.specs.declared.SendChannelReliable.{SendChannelReliable}
-use Rattle.send_reliable.specs.declared.Round.{Round}
 use Rattle.send_reliable.specs.Sender.{no_row, live}
 use Rattle.send_reliable.specs.Select.{Visit, visits_from, Chosen, visit, unvisited, select, with_chosen}
-use Rattle.send_reliable.specs.Round.{Given, chosen, packs, lent, state_after, RoundGives}
+use Rattle.send_reliable.specs.Round.{Given, chosen, packs, lent, state_after, Round, RoundGives}
 use Rattle.send_reliable.proofs.RoundLists.{reached-always}
 use Rattle.send_reliable.proofs.Select.{by-visit}
 use Rattle.send_reliable.proofs.Rounds.{accepted, stopped}
@@ -64,26 +62,26 @@ module _ (s : SendChannelReliable) (g : Given) where
 
   module _ (out table out' table' : List ℕ) (r : Round) (w : RoundGives s g out table out' table' r) where
     -- and so it says: it spent them, and at most what it was allowed
-    pub spent-told : (x : Written) → r.answer ≡ went.Sent x → (x.budget.spent ≡ payload (packs s g)) × (x.budget.allowed ≡ g.allowance) × (x.budget.spent ≤ x.budget.allowed)
+    pub spent-told : (x : Written) → r.answer ≡ Ok x → (x.budget.spent ≡ payload (packs s g)) × (x.budget.allowed ≡ g.allowance) × (x.budget.spent ≤ x.budget.allowed)
     unfolding sums
     spent-told x e =
-        let o : went_of (went.Sent x) ≡ sent (sums (lent s g) g.seq g.allowance (packs s g)) = sym (ap went_of e) ∙ rw (accepted w.went x e) at w.went.answer in
+        let o : went_of (Ok x) ≡ sent (sums (lent s g) g.seq g.allowance (packs s g)) = sym (ap went_of e) ∙ rw (accepted w.went x e) at w.went.answer in
         let a : x.budget.spent ≡ payload (packs s g) = ap (λ t. (sums_of t).spent) o in
         let b : x.budget.allowed ≡ g.allowance = ap (λ t. (sums_of t).allowed) o in
         (a, b, omega (arith, round-spends))
 
     -- ---- a refused round changes nothing
 
-    pub refused-nothing : (e : Refusal) → r.answer ≡ went.Refused e → (r.state ≡ s) × (out' ≡ out) × (table' ≡ table)
+    pub refused-nothing : (e : Refusal) → r.answer ≡ Err e → (r.state ≡ s) × (out' ≡ out) × (table' ≡ table)
     refused-nothing e h =
         let n = stopped w.went e h in (rw n at w.state, rw n at w.went.bytes, rw n at w.went.entries)
 
     -- ---- an accepted one moves the clock
 
-    pub accepted-state : (x : Written) → r.answer ≡ went.Sent x → r.state ≡ state_after s g
+    pub accepted-state : (x : Written) → r.answer ≡ Ok x → r.state ≡ state_after s g
     accepted-state x e = rw (accepted w.went x e) at w.state
 
-    pub clock-moves : (x : Written) → r.answer ≡ went.Sent x → r.state.latest ≡ g.now
+    pub clock-moves : (x : Written) → r.answer ≡ Ok x → r.state.latest ≡ g.now
     unfolding state_after
     clock-moves x e = ap (λ (t : SendChannelReliable). t.latest) (accepted-state x e)
 
@@ -111,7 +109,7 @@ module _ (s : SendChannelReliable) (g : Given) (nothing : (chosen s g).items ≡
       reached-always (visit s.settings s.resend_time g.now) (Quiet s g.allowance) (one-quiet s g.now g.allowance) (unvisited s g.allowance) (visits_from 0 (live s)) (λ n. refl) nothing
 
   -- an accepted round with nothing to send moves the clock, and nothing else
-  pub only-clock-moves : (out table out' table' : List ℕ) (r : Round) → RoundGives s g out table out' table' r → (x : Written) → r.answer ≡ went.Sent x
+  pub only-clock-moves : (out table out' table' : List ℕ) (r : Round) → RoundGives s g out table out' table' r → (x : Written) → r.answer ≡ Ok x
       → r.state ≡ with_chosen s g.now (unvisited s g.allowance)
   unfolding state_after
   only-clock-moves out table out' table' r w x e = accepted-state s g out table out' table' r w x e ∙ ap (with_chosen s g.now) nothing-chosen
@@ -122,4 +120,4 @@ pub one-round : (s : SendChannelReliable) (g : Given) (out table out₁ table₁
     → RoundGives s g out table out₁ table₁ r → RoundGives s g out table out₂ table₂ q → (r ≡ q) × (out₁ ≡ out₂) × (table₁ ≡ table₂)
 one-round s g out table out₁ table₁ out₂ table₂ r q x y =
     let o = one-went _ _ _ _ _ out table out₁ table₁ out₂ table₂ r.answer q.answer x.went y.went in
-    (ap (λ (a : Went). record { answer = a; state = r.state }) o.0 ∙ ap (λ (t : SendChannelReliable). record { answer = q.answer; state = t }) (x.state ∙ sym y.state), o.1, o.2)
+    (ap (λ (a : Result Written Refusal). record { answer = a; state = r.state }) o.0 ∙ ap (λ (t : SendChannelReliable). record { answer = q.answer; state = t }) (x.state ∙ sym y.state), o.1, o.2)

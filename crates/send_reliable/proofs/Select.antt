@@ -20,21 +20,19 @@ use Rattle.channel.proofs.Good.{lane-within}
 use Rattle.pack.specs.Encode.{Lent}
 use Rattle.pack.specs.Rows as rows
 use Rattle.pack.proofs.Pieces.{pieces-most, pieces-two, piece-most, piece-within}
-use Rattle.send_reliable.specs.declared.Sent.{Sent}
-use Rattle.send_reliable.specs.declared.Sent.TheVariants.{Never, At}
-use Rattle.send_reliable.specs.declared.Sending.{Sending}
+use Rattle.std.specs.Prelude.{Option, None, Some}
 use Rattle.send_reliable.specs.declared.Kind.{Kind}
 use Rattle.send_reliable.specs.declared.Kind.TheVariants.{Small, Sliced}
 use Rattle.send_reliable.specs.declared.Row.{Row}
 use Rattle.send_reliable.specs.declared.Piece.{Piece}
 use Rattle.send_reliable.specs.declared.SendChannelReliable.{SendChannelReliable}
-use Rattle.send_reliable.specs.Sender.{last_sent_of, kind_of, as_row, no_row, no_piece, live, SentBy, acked_pieces, PlacedKind, Placed, Apart, Before, Valid}
+use Rattle.send_reliable.specs.Sender.{Sending, last_sent_of, kind_of, as_row, no_row, no_piece, live, SentBy, acked_pieces, PlacedKind, Placed, Apart, Before, Valid}
 use Rattle.send_reliable.specs.Select.{Visit, visits_from, due, sent_at, Chosen, with_small, with_piece, visit_kind, visit, unvisited, select, with_chosen}
-use Rattle.send_reliable.specs.RoundSteps.{goes}
+use Rattle.send_reliable.specs.RoundSteps.{goes, size_row, Within}
 use Rattle.words.proofs.Entries.{all_set, pairs-anew}
 use Rattle.send_reliable.proofs.Valid.{row-id, row_len, row-kind}
 use Rattle.send_reliable.proofs.RoundLists.{reached-keeps, same_set, total-part}
-use Rattle.send_reliable.proofs.Visits.{size_row, Within, length-live, visits-within}
+use Rattle.send_reliable.proofs.Visits.{length-live, visits-within}
 
 -- ---- the cases of a visit
 
@@ -75,7 +73,7 @@ module _ (st : Settings) (resend now : ℕ) (c : Chosen) (v : Visit) where
       (with_piece st resend now c v.row v.piece row l a (piece_of c l v.piece)) c
 
 -- what goes is covered by what is left
-pub enough : (resend now left need : ℕ) (t : Sent) → goes resend now left need t ≡ true → need ≤ left
+pub enough : (resend now left need : ℕ) (t : Option ℕ) → goes resend now left need t ≡ true → need ≤ left
 enough resend now left need t = by-test (ltb left need) (λ e g. clash (let z = rw e at g in cc)) (λ e g. ltb-false left need e)
 
 unacked : (b g : Bool) → pick b false g ≡ true → g ≡ true
@@ -101,9 +99,9 @@ module _ (st : Settings) (resend now : ℕ) (P : Chosen → Type 0) (c : Chosen)
 -- ---- a sender stays valid
 
 module _ (s : SendChannelReliable) (now : ℕ) where
-  later : (t : Sent) → s.latest ≤ now → SentBy s.latest t → SentBy now t
-  later Never h p = tt
-  later (At t) h p = omega arith
+  later : (t : Option ℕ) → s.latest ≤ now → SentBy s.latest t → SentBy now t
+  later None h p = tt
+  later (Some t) h p = omega arith
 
   later-kind : (a n : ℕ) (kind : Kind) → s.latest ≤ now → PlacedKind s n kind → PlacedKind (with_chosen s now (unvisited s a)) n kind
   unfolding acked_pieces
@@ -111,7 +109,7 @@ module _ (s : SendChannelReliable) (now : ℕ) where
   later-kind a n (Sliced l b k) h p = p
 
   -- before the first visit, the clock moved on
-  begun : Valid s → s.latest ≤ now → (a : ℕ) → Valid (with_chosen s now (unvisited s a))
+  pub begun : Valid s → s.latest ≤ now → (a : ℕ) → Valid (with_chosen s now (unvisited s a))
   unfolding Placed
   begun v h a =
       record {

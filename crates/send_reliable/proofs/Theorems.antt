@@ -17,24 +17,19 @@ use Rattle.words.proofs.Tables.{clash, pick-cases, part-here}
 use Rattle.words.proofs.Unique.{told-apart, refusal_of, refusal-undone}
 use Rattle.channel.specs.Settings.{lane_len_of}
 use Rattle.channel.specs.declared.Settings.{Settings}
-use Rattle.channel.specs.declared.Setup.{Setup}
 use Rattle.channel.proofs.Unique.{one-setup}
 use Rattle.channel.proofs.Good.{lane-within}
-use Rattle.send_reliable.specs.declared.Sending.{Sending}
 use Rattle.send_reliable.specs.declared.Kind.{Kind}
 use Rattle.send_reliable.specs.declared.Kind.TheVariants.{Small, Sliced}
 use Rattle.send_reliable.specs.declared.Row.{Row}
 use Rattle.send_reliable.specs.declared.Piece.{Piece}
 use Rattle.send_reliable.specs.declared.SendChannelReliable.{SendChannelReliable}
-use Rattle.send_reliable.specs.declared.Made.{Made}
-use Rattle.send_reliable.specs.declared.Queue.{Queue}
-use Rattle.send_reliable.specs.declared.Queue.TheVariants as queue
-use Rattle.send_reliable.specs.declared.Queued.{Queued}
-use Rattle.send_reliable.specs.declared.Found.TheVariants.{At}
 use Rattle.send_reliable.specs.declared.Ack.{Ack}
 use Rattle.send_reliable.specs.declared.Ack.TheVariants as ack
-use Rattle.send_reliable.specs.declared.Acked.{Acked}
-use Rattle.send_reliable.specs.Sender.{unsent, kind_of, as_row, no_row, live, piece_at, Placed, Before, Valid, MadeGives}
+use Rattle.std.specs.Prelude.{Some, Result, Ok, Err}
+use Rattle.words.specs.declared.MessageId.{MessageId}
+use Rattle.words.specs.declared.Refusal.{Refusal}
+use Rattle.send_reliable.specs.Sender.{Sending, unsent, kind_of, as_row, no_row, live, piece_at, Placed, Before, Valid, Made, MadeGives}
 use Rattle.send_reliable.specs.Queue as q
 use Rattle.send_reliable.specs.Ack as a
 use Rattle.send_reliable.specs.QueueSteps.{RowFits, found_of, RowAt}
@@ -70,39 +65,39 @@ module _ (s : SendChannelReliable) (v : Valid s) where
 
 pub one-made : (channel : ℕ) (s : Settings) (resend : ℕ) (r p : Made) → MadeGives channel s resend r → MadeGives channel s resend p → r ≡ p
 one-made channel s resend r p x y =
-    ap (λ (b : Setup). record { answer = b; state = r.state }) (one-setup r.answer p.answer (x.number ∙ sym y.number))
+    ap (λ (b : Result (Unit {0}) Refusal). record { answer = b; state = r.state }) (one-setup r.answer p.answer (x.number ∙ sym y.number))
     ∙ ap (λ (t : SendChannelReliable). record { answer = p.answer; state = t }) (x.state ∙ sym y.state)
 
-abbrev queue_from : q.Outcome → Queue
-queue_from (q.taken n) = queue.Taken (record { 0 = n })
-queue_from (q.refusing n) = queue.Refused (refusal_of n)
+abbrev queue_from : q.Outcome → Result MessageId Refusal
+queue_from (q.taken n) = Ok (record { 0 = n })
+queue_from (q.refusing n) = Err (refusal_of n)
 
-queue-undone : (b : Queue) → queue_from (q.queue_of b) ≡ b
-queue-undone (queue.Taken id) = refl
-queue-undone (queue.Refused e) = ap queue.Refused (refusal-undone e)
+queue-undone : (b : Result MessageId Refusal) → queue_from (q.queue_of b) ≡ b
+queue-undone (Ok id) = refl
+queue-undone (Err e) = ap Err (refusal-undone e)
 
-pub one-queue : (s : SendChannelReliable) (msg small lanes small₁ lanes₁ small₂ lanes₂ : List ℕ) (r p : Queued)
+pub one-queue : (s : SendChannelReliable) (msg small lanes small₁ lanes₁ small₂ lanes₂ : List ℕ) (r p : q.Queued)
     → q.QueueGives s msg small lanes small₁ lanes₁ r → q.QueueGives s msg small lanes small₂ lanes₂ p → (r ≡ p) × (small₁ ≡ small₂) × (lanes₁ ≡ lanes₂)
 one-queue s msg small lanes small₁ lanes₁ small₂ lanes₂ r p x y = (
-  ap (λ (b : Queue). record { answer = b; state = r.state }) (told-apart q.queue_of queue_from queue-undone r.answer p.answer (x.answer ∙ sym y.answer))
+  ap (λ (b : Result MessageId Refusal). record { answer = b; state = r.state }) (told-apart q.queue_of queue_from queue-undone r.answer p.answer (x.answer ∙ sym y.answer))
       ∙ ap (λ (t : SendChannelReliable). record { answer = p.answer; state = t }) (x.state ∙ sym y.state),
   x.small-store ∙ sym y.small-store,
   x.lane-store ∙ sym y.lane-store,
 )
 
-abbrev ack_from : a.Outcome → Ack
-ack_from a.done = ack.Done
-ack_from a.unknown = ack.Unknown
-ack_from (a.refused n) = ack.Refused (refusal_of n)
+abbrev ack_from : a.Outcome → Result Ack Refusal
+ack_from a.done = Ok ack.Done
+ack_from a.unknown = Ok ack.Unknown
+ack_from (a.refused n) = Err (refusal_of n)
 
-ack-undone : (b : Ack) → ack_from (a.ack_of b) ≡ b
-ack-undone ack.Done = refl
-ack-undone ack.Unknown = refl
-ack-undone (ack.Refused e) = ap ack.Refused (refusal-undone e)
+ack-undone : (b : Result Ack Refusal) → ack_from (a.ack_of b) ≡ b
+ack-undone (Ok ack.Done) = refl
+ack-undone (Ok ack.Unknown) = refl
+ack-undone (Err e) = ap Err (refusal-undone e)
 
-pub one-ack : (z : a.After) (r p : Acked) → a.AckGives z r → a.AckGives z p → r ≡ p
+pub one-ack : (z : a.After) (r p : a.Acked) → a.AckGives z r → a.AckGives z p → r ≡ p
 one-ack z r p x y =
-    ap (λ (b : Ack). record { answer = b; state = r.state }) (told-apart a.ack_of ack_from ack-undone r.answer p.answer (x.answer ∙ sym y.answer))
+    ap (λ (b : Result Ack Refusal). record { answer = b; state = r.state }) (told-apart a.ack_of ack_from ack-undone r.answer p.answer (x.answer ∙ sym y.answer))
     ∙ ap (λ (t : SendChannelReliable). record { answer = p.answer; state = t }) (x.state ∙ sym y.state)
 
 -- ---- a refusal, and an unknown id, change no state and no byte
@@ -114,7 +109,7 @@ module _ (s : SendChannelReliable) where
   spot-kept (q.lane l) n msg small lanes e = clash (cc)
   spot-kept (q.refused m) n msg small lanes e = (refl, refl, refl)
 
-  pub refused-queue-keeps : (n : ℕ) (msg small lanes small' lanes' : List ℕ) (r : Queued) → q.QueueGives s msg small lanes small' lanes' r
+  pub refused-queue-keeps : (n : ℕ) (msg small lanes small' lanes' : List ℕ) (r : q.Queued) → q.QueueGives s msg small lanes small' lanes' r
       → q.queue_of r.answer ≡ q.refusing n → (r.state ≡ s) × (small' ≡ small) × (lanes' ≡ lanes)
   refused-queue-keeps n msg small lanes small' lanes' r g e =
       let k = spot-kept (q.spot_of s (length msg) (length small) (length lanes)) n msg small lanes (sym g.answer ∙ e) in
@@ -140,11 +135,11 @@ module _ (s : SendChannelReliable) where
   piece-leaves k i r (Small j t) = λ _. refl
   piece-leaves k i r (Sliced l b next) = pick-cases Leaves (leb (pieces_of r.len) i) (λ _ _. refl) (λ _ n. absurd (n refl))
 
-  pub undone-ack-keeps : (x : ℕ) (r : Acked) → a.AckGives (a.ack_small s x) r → (a.ack_of r.answer ≡ a.done → ⊥) → r.state ≡ s
+  pub undone-ack-keeps : (x : ℕ) (r : a.Acked) → a.AckGives (a.ack_small s x) r → (a.ack_of r.answer ≡ a.done → ⊥) → r.state ≡ s
   unfolding a.ack_small Leaves
   undone-ack-keeps x r g n = g.state ∙ row-leaves x (λ k w. a.small_kind s k w (kind_of w)) (λ k w. small-leaves k w (kind_of w)) (λ e. n (g.answer ∙ e))
 
-  pub undone-piece-keeps : (x i : ℕ) (r : Acked) → a.AckGives (a.ack_piece s x i) r → (a.ack_of r.answer ≡ a.done → ⊥) → r.state ≡ s
+  pub undone-piece-keeps : (x i : ℕ) (r : a.Acked) → a.AckGives (a.ack_piece s x i) r → (a.ack_of r.answer ≡ a.done → ⊥) → r.state ≡ s
   unfolding a.ack_piece Leaves
   undone-piece-keeps x i r g n = g.state ∙ row-leaves x (λ k w. a.piece_kind_of s k i w (kind_of w)) (λ k w. piece-leaves k i w (kind_of w)) (λ e. n (g.answer ∙ e))
 
@@ -170,21 +165,21 @@ module _ (s : SendChannelReliable) (v : Valid s) (msg small lanes : List ℕ) wh
       (cc, added s v (length msg) (lane-fits s v (length msg) l (spot-lane s v (length msg) (length small) (length lanes) l h).0) (Sliced l 0 0) _ _ _)
   spot-added (q.refused n) h id e = clash (cc)
 
-  pub queued-last : (id : ℕ) (small' lanes' : List ℕ) (r : Queued) → q.QueueGives s msg small lanes small' lanes' r → q.queue_of r.answer ≡ q.taken id
+  pub queued-last : (id : ℕ) (small' lanes' : List ℕ) (r : q.Queued) → q.QueueGives s msg small lanes small' lanes' r → q.queue_of r.answer ≡ q.taken id
       → (id ≡ s.next_reliable_message_id) × Added s (length msg) r.state
   queued-last id small' lanes' r g e =
       let k = spot-added (q.spot_of s (length msg) (length small) (length lanes)) refl id (sym g.answer ∙ e) in
       (k.0, rw g.state k.1)
 
   -- its bytes stand at the front of its cell, or of its lane
-  pub queued-in-cell : (i : ℕ) → q.spot_of s (length msg) (length small) (length lanes) ≡ q.cell i → (small' lanes' : List ℕ) (r : Queued)
+  pub queued-in-cell : (i : ℕ) → q.spot_of s (length msg) (length small) (length lanes) ≡ q.cell i → (small' lanes' : List ℕ) (r : q.Queued)
       → q.QueueGives s msg small lanes small' lanes' r → take (length msg) (drop (i * SLICE_SIZE) small') ≡ msg
   queued-in-cell i h small' lanes' r g =
       let p = spot-cell s v (length msg) (length small) (length lanes) i h in
       let e : small' ≡ splice (i * SLICE_SIZE) msg small = rw h at g.small-store in
       rw e (part-here (i * SLICE_SIZE) msg small (omega (arith, p.0.low, p.0.short, p.1)))
 
-  pub queued-in-lane : (l : ℕ) → q.spot_of s (length msg) (length small) (length lanes) ≡ q.lane l → (small' lanes' : List ℕ) (r : Queued)
+  pub queued-in-lane : (l : ℕ) → q.spot_of s (length msg) (length small) (length lanes) ≡ q.lane l → (small' lanes' : List ℕ) (r : q.Queued)
       → q.QueueGives s msg small lanes small' lanes' r → take (length msg) (drop (l * lane_len_of s.settings) lanes') ≡ msg
   queued-in-lane l h small' lanes' r g =
       let p = spot-lane s v (length msg) (length small) (length lanes) l h in
@@ -205,7 +200,7 @@ module _ (s : SendChannelReliable) (v : Valid s) (k : ℕ) (r : Row) (at : RowAt
   id-low = omega (arith, (row-placed s v k r at).0, v.next-most)
 
   -- it is found by its id
-  pub found-by-id : found_of s r.id.0 ≡ At k r
+  pub found-by-id : found_of s r.id.0 ≡ Some (k, r)
   unfolding found_of Before
   found-by-id =
       let x : ℕ = r.id.0 in
@@ -215,7 +210,7 @@ module _ (s : SendChannelReliable) (v : Valid s) (k : ℕ) (r : Row) (at : RowAt
       first-is (a.has_id x) no_row (live s) k i
       (λ j h. lower-other (get_or (live s) j no_row).id.0 x (rw here at (pairs-at Before (live s) j k no_row h i v.rising).0))
       (rw here (eq-eqb x x refl)) in
-      rw (e, lt-ltb _ _ at.low, at.row)
+      rw (e, lt-ltb _ _ i, here)
 
   -- t is s without it: its memory is given back, and its id is unknown
   pub record Gone (t : SendChannelReliable) : Type 0 where
@@ -243,12 +238,12 @@ module _ (s : SendChannelReliable) (v : Valid s) (k : ℕ) (r : Row) (at : RowAt
       }
 
   -- the ack of a small message frees its cell
-  pub small-gone : (i : ℕ) (u : Sending) → kind_of r ≡ Small i u → (p : Acked) → a.AckGives (a.ack_small s r.id.0) p
+  pub small-gone : (i : ℕ) (u : Sending) → kind_of r ≡ Small i u → (p : a.Acked) → a.AckGives (a.ack_small s r.id.0) p
       → (a.ack_of p.answer ≡ a.done) × (get_or p.state.cells i false ≡ false) × Gone p.state
   unfolding a.ack_small
   small-gone i u e p g =
       let t : SendChannelReliable = a.without s k r.len (set s.cells i false) s.lanes in
-      let z : a.ack_small s r.id.0 ≡ a.after a.done t = row-found s r.id.0 _ id-low k r found-by-id ∙ rw e in
+      let z : a.ack_small s r.id.0 ≡ a.after a.done t = row-found s v r.id.0 id-low _ k r found-by-id ∙ rw e in
       let es : p.state ≡ t = g.state ∙ ap (λ (w : a.After). w.state) z in (
         g.answer ∙ ap (λ (w : a.After). w.answer) z,
         rw es (get_or-set_same s.cells i false false (omega (arith, cell-low s v k r at i u e, v.cells-long))),
@@ -257,12 +252,12 @@ module _ (s : SendChannelReliable) (v : Valid s) (k : ℕ) (r : Row) (at : RowAt
 
   -- the ack of the last piece of a sliced one frees its lane
   pub sliced-gone : (i l b next : ℕ) → kind_of r ≡ Sliced l b next → i < pieces_of r.len → (piece_at s l i).acked ≡ false → b + 1 ≡ pieces_of r.len
-      → (p : Acked) → a.AckGives (a.ack_piece s r.id.0 i) p
+      → (p : a.Acked) → a.AckGives (a.ack_piece s r.id.0 i) p
       → (a.ack_of p.answer ≡ a.done) × (get_or p.state.lanes l false ≡ false) × Gone p.state
   unfolding a.ack_piece
   sliced-gone i l b next e low new last p g =
       let t : SendChannelReliable = a.without s k r.len s.cells (set s.lanes l false) in
-      let z : a.ack_piece s r.id.0 i ≡ a.after a.done (a.with_ack s k i r l b next) = row-found s r.id.0 _ id-low k r found-by-id ∙ rw (e, lt-leb _ _ low) in
+      let z : a.ack_piece s r.id.0 i ≡ a.after a.done (a.with_ack s k i r l b next) = row-found s v r.id.0 id-low _ k r found-by-id ∙ rw (e, lt-leb _ _ low) in
       let es : p.state ≡ t = g.state ∙ ap (λ (w : a.After). w.state) z ∙ sym (piece-last s v k r at l b next e i new last) in (
         g.answer ∙ ap (λ (w : a.After). w.answer) z,
         rw es (get_or-set_same s.lanes l false false (omega (arith, lane_low s v k r at l b next e, v.lanes-long))),

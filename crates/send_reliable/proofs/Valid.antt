@@ -18,13 +18,12 @@ use Rattle.words.proofs.Tables.{clash, total-set, part-here}
 use Rattle.words.specs.declared.MessageId.{MessageId}
 use Rattle.channel.specs.Settings.{Good}
 use Rattle.channel.specs.declared.Settings.{Settings}
-use Rattle.send_reliable.specs.declared.Sending.{Sending}
 use Rattle.send_reliable.specs.declared.Kind.{Kind}
 use Rattle.send_reliable.specs.declared.Kind.TheVariants.{Small, Sliced}
 use Rattle.send_reliable.specs.declared.Row.{Row}
 use Rattle.send_reliable.specs.declared.Piece.{Piece}
 use Rattle.send_reliable.specs.declared.SendChannelReliable.{SendChannelReliable}
-use Rattle.send_reliable.specs.Sender.{last_sent_of, kind_of, as_row, ROWS, unsent, no_row, no_piece, new_of, live, SentBy, piece_at, acked_pieces, PlacedKind, Placed, Apart, Before, Valid}
+use Rattle.send_reliable.specs.Sender.{Sending, last_sent_of, kind_of, as_row, ROWS, unsent, no_row, no_piece, new_of, live, SentBy, piece_at, acked_pieces, PlacedKind, Placed, Apart, Before, Valid}
 use Rattle.send_reliable.specs.Queue.{add_row_of, add_small, add_sliced}
 use Rattle.send_reliable.specs.Ack as ack
 use Rattle.send_reliable.specs.QueueSteps.{RowAt}

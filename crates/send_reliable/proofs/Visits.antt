@@ -1,4 +1,4 @@
--- Laws of the visits of a round: their table, how many visits there are, and that each is to a piece of a waiting message.
+-- Laws of the visits of a round: how many there are, how they are written, and that each is to a piece of a waiting message.
 -- Assumes nothing.
 use Prim.Native.Nat.{ℕ, zero, suc, ◌+◌, ◌*◌, ◌-◌, ◌≤◌, ◌<◌}
 use mathlib.Core.Path.{◌≡◌, refl, sym, ap, ◌∙◌}
@@ -7,49 +7,26 @@ use mathlib.Core.List.{List, [], ◌∷◌, ◌++◌, append-nil, append_assoc}
 use native.Mathlib.Omega.{arith}
 use native.Mathlib.Nat.{add-zero, sub-zero, not-suc-le-zero, le_of_suc-le-suc}
 use native.Mathlib.Numerals.{add-one}
-use lib.ListN.{length, get_or, set, take, drop, length-append}
+use lib.ListN.{length, get_or, set, take, length-append}
 use lib.Seq.{get_or-take, length-take-le, take_all}
+use Rattle.std.proofs.lemmas.List.{take_more_set}
 use Rattle.words.specs.Sizes.{PIECES}
 use Rattle.words.specs.Choice.{pick}
 use Rattle.words.specs.Pieces.{pieces_of}
-use Rattle.words.specs.Lists.{splice, holds, total, All}
+use Rattle.words.specs.Lists.{holds, total, All}
 use Rattle.words.proofs.Lists.{holds-le, all_map, all-at, all_take, all_append}
 use Rattle.words.proofs.Tables.{clash}
 use Rattle.channel.specs.Settings.{Good}
 use Rattle.pack.specs.Round.{ITEMS}
-use Rattle.pack.proofs.Tables.{word-put, word-before}
 use Rattle.send_reliable.specs.declared.Kind.{Kind}
 use Rattle.send_reliable.specs.declared.Kind.TheVariants.{Small, Sliced}
 use Rattle.send_reliable.specs.declared.Row.{Row}
 use Rattle.send_reliable.specs.declared.SendChannelReliable.{SendChannelReliable}
 use Rattle.send_reliable.specs.Sender.{kind_of, no_row, live, PlacedKind, Placed, Apart, Before, Valid}
 use Rattle.send_reliable.specs.Select.{Visit, up_from, row_visits, visits_from}
-use Rattle.send_reliable.specs.RoundSteps.{each, VISIT, visit_at, visits_in, Ranged}
+use Rattle.send_reliable.specs.RoundSteps.{each, Ranged, size_of, size_row, Within}
 use Rattle.words.proofs.Entries.{pairs-map}
-use Rattle.send_reliable.proofs.RoundLists.{each_more, length-each, all-each, each-put, total-front, places-few}
-
--- ---- the table of visits
-
-module _ (t : List ℕ) (m k i : ℕ) (h : VISIT * (m + 1) ≤ length t) where
-  abbrev visited : List ℕ
-  visited = splice (VISIT * m) (k ∷ i ∷ []) t
-
-  before-visit : (j : ℕ) → j < VISIT * m → get_or visited j 0 ≡ get_or t j 0
-  before-visit j = word-before t (k ∷ i ∷ []) (VISIT * m) j
-
-  visit-word : (j : ℕ) → get_or visited (VISIT * m + j) 0 ≡ get_or (k ∷ i ∷ drop (VISIT * m + 2) t) j 0
-  visit-word = word-put t (k ∷ i ∷ []) (VISIT * m) (omega arith)
-
-  visits-put : visits_in visited (m + 1) ≡ visits_in t m ++ (record { row = k; piece = i } ∷ [])
-  visits-put =
-      each-put (visit_at t) (visit_at visited) m (record { row = k; piece = i })
-      (λ j l. rw (before-visit (VISIT * j) (omega arith), before-visit (VISIT * j + 1) (omega arith)))
-      (rw (rw add-zero at (visit-word 0), visit-word 1))
-
-  -- as the code puts it
-  pub visit-put : visits_in (set (set t (VISIT * m) k) (VISIT * m + 1) i) (m + 1) ≡ visits_in t m ++ (record { row = k; piece = i } ∷ [])
-  unfolding splice
-  visit-put = simp (add-one (VISIT * m)) visits-put
+use Rattle.send_reliable.proofs.RoundLists.{each_more, length-each, all-each, total-front, places-few}
 
 -- ---- visits in a range
 
@@ -65,28 +42,20 @@ up_from-more : (k i n : ℕ) → up_from k i (suc n) ≡ up_from k i n ++ (recor
 up_from-more k i n = rw (up_from-each k i (suc n), up_from-each k i n) (each_more (λ j. record { row = k; piece = j }) i n)
 
 -- none yet, and one more
-pub range_none : (t : List ℕ) (n k from : ℕ) → visits_in t n ≡ visits_in t n ++ up_from k from (from - from)
+pub range_none : (t : List Visit) (n k from : ℕ) → take n t ≡ take n t ++ up_from k from (from - from)
 unfolding up_from
-range_none t n k from = let e : from - from ≡ 0 = omega arith in rw e (sym (append-nil (visits_in t n)))
+range_none t n k from = let e : from - from ≡ 0 = omega arith in rw e (sym (append-nil (take n t)))
 
-pub range-turn : (t₀ t : List ℕ) (n m k from i : ℕ) → from ≤ i → VISIT * (m + 1) ≤ length t → visits_in t m ≡ visits_in t₀ n ++ up_from k from (i - from)
-    → visits_in (set (set t (VISIT * m) k) (VISIT * m + 1) i) (m + 1) ≡ visits_in t₀ n ++ up_from k from (i + 1 - from)
+pub range-turn : (t₀ t : List Visit) (n m k from i : ℕ) → from ≤ i → m < length t → take m t ≡ take n t₀ ++ up_from k from (i - from)
+    → take (m + 1) (set t m (record { row = k; piece = i })) ≡ take n t₀ ++ up_from k from (i + 1 - from)
 range-turn t₀ t n m k from i l h e =
     let s : i + 1 - from ≡ suc (i - from) = omega arith in
     let z : from + (i - from) ≡ i = omega arith in
-    visit-put t m k i h ∙ ap (λ (x : List Visit). x ++ (record { row = k; piece = i } ∷ [])) e
-    ∙ append_assoc (visits_in t₀ n) (up_from k from (i - from)) (record { row = k; piece = i } ∷ [])
-    ∙ ap (λ (x : List Visit). visits_in t₀ n ++ x) (sym (ap (up_from k from) s ∙ up_from-more k from (i - from) ∙ ap (λ (j : ℕ). up_from k from (i - from) ++ (record { row = k; piece = j } ∷ [])) z))
+    take_more_set t m (record { row = k; piece = i }) h ∙ ap (λ (x : List Visit). x ++ (record { row = k; piece = i } ∷ [])) e
+    ∙ append_assoc (take n t₀) (up_from k from (i - from)) (record { row = k; piece = i } ∷ [])
+    ∙ ap (λ (x : List Visit). take n t₀ ++ x) (sym (ap (up_from k from) s ∙ up_from-more k from (i - from) ∙ ap (λ (j : ℕ). up_from k from (i - from) ++ (record { row = k; piece = j } ∷ [])) z))
 
 -- ---- visits of rows
-
--- how many visits a row has
-abbrev pub size_of : ℕ → Kind → ℕ
-size_of n (Small i t) = 1
-size_of n (Sliced l a next) = pieces_of n
-
-abbrev pub size_row : Row → ℕ
-size_row r = size_of r.len (kind_of r)
 
 abbrev pub RangedRow : Row → Type 0
 RangedRow r = Ranged r.len (kind_of r)
@@ -117,14 +86,14 @@ visits-more j (r ∷ rs) (suc k) h =
     ∙ sym (append_assoc (row_visits j r.len (kind_of r)) (visits_from (j + 1) (take k rs)) (row_visits (j + suc k) (get_or rs k no_row).len (kind_of (get_or rs k no_row))))
 
 -- a sliced message's, in two ranges
-pub row-round : (t t' u : List ℕ) (n m r k next num len : ℕ) → num ≡ pieces_of len → visits_in t' m ≡ visits_in t n ++ up_from k next (num - next) → visits_in u r ≡ visits_in t' m ++ up_from k 0 (next - 0)
-    → visits_in u r ≡ visits_in t n ++ (up_from k next (pieces_of len - next) ++ up_from k 0 next)
+pub row-round : (t t' u : List Visit) (n m r k next num len : ℕ) → num ≡ pieces_of len → take m t' ≡ take n t ++ up_from k next (num - next) → take r u ≡ take m t' ++ up_from k 0 (next - 0)
+    → take r u ≡ take n t ++ (up_from k next (pieces_of len - next) ++ up_from k 0 next)
 row-round t t' u n m r k next num len e a b =
-    b ∙ rw (sub-zero next, a, e) (append_assoc (visits_in t n) (up_from k next (pieces_of len - next)) (up_from k 0 next))
+    b ∙ rw (sub-zero next, a, e) (append_assoc (take n t) (up_from k next (pieces_of len - next)) (up_from k 0 next))
 
 -- how many are written
-pub visits-count : (t : List ℕ) (n : ℕ) (vs : List Visit) → visits_in t n ≡ vs → n ≡ length vs
-visits-count t n vs e = sym (length-each (visit_at t) 0 n) ∙ ap length e
+pub visits-count : (t : List Visit) (n : ℕ) (vs : List Visit) → take n t ≡ vs → n ≤ length t → n ≡ length vs
+visits-count t n vs e h = sym (length-take-le n t h) ∙ ap length e
 
 -- each visit of a row is to one of its pieces
 row_in : (k n : ℕ) (kind : Kind) → Ranged n kind → All (λ v. (v.row ≡ k) × (v.piece < size_of n kind)) (row_visits k n kind)
@@ -134,10 +103,6 @@ row_in k n (Sliced l a next) g =
     (all_append (λ v. (v.row ≡ k) × (v.piece < pieces_of n)) (each (λ j. record { row = k; piece = j }) next (pieces_of n - next)) (each (λ j. record { row = k; piece = j }) 0 next)
     (all-each (λ v. (v.row ≡ k) × (v.piece < pieces_of n)) (λ j. record { row = k; piece = j }) next (pieces_of n - next) (λ j h. (refl, omega arith)))
     (all-each (λ v. (v.row ≡ k) × (v.piece < pieces_of n)) (λ j. record { row = k; piece = j }) 0 next (λ j h. (refl, omega arith))))
-
--- a visit is to a row below n, and there to a piece below what f says
-abbrev pub Within : ℕ → (ℕ → ℕ) → Visit → Type 0
-Within n f v = (v.row < n) × (v.piece < f v.row)
 
 visits-in : (f : ℕ → ℕ) (n j : ℕ) (rows : List Row) → j + length rows ≤ n → ((i : ℕ) → i < length rows → size_row (get_or rows i no_row) ≡ f (j + i)) → All RangedRow rows
     → All (Within n f) (visits_from j rows)
@@ -246,8 +211,8 @@ module _ (s : SendChannelReliable) (v : Valid s) where
         (omega (arith, rw row-live at (total-front size_row (live s) k no_row in-live), sizes-few))
 
     -- and its visits come next
-    pub row_next : (t₀ : List ℕ) (m : ℕ) → visits_in t₀ m ≡ visits_from 0 (take k (live s)) → (t : List ℕ) (n : ℕ)
-        → visits_in t n ≡ visits_in t₀ m ++ row_visits k (get_or s.rows k no_row).len (kind_of (get_or s.rows k no_row)) → visits_in t n ≡ visits_from 0 (take (k + 1) (live s))
+    pub row_next : (t₀ : List Visit) (m : ℕ) → take m t₀ ≡ visits_from 0 (take k (live s)) → (t : List Visit) (n : ℕ)
+        → take n t ≡ take m t₀ ++ row_visits k (get_or s.rows k no_row).len (kind_of (get_or s.rows k no_row)) → take n t ≡ visits_from 0 (take (k + 1) (live s))
     row_next t₀ m w t n e =
         let z : 0 + k ≡ k = omega arith in
         e ∙ ap (λ (vs : List Visit). vs ++ row_visits k (get_or s.rows k no_row).len (kind_of (get_or s.rows k no_row))) w

@@ -1,18 +1,19 @@
 -- Acknowledgements to a reliable sender. Document 01: 13, unknown id, 16, 17. Assumes nothing.
-use Rattle.std.specs.Prelude.{ℕ, suc, ◌+◌, ◌-◌, ◌*◌, ◌≡◌, Bool, true, false, List, get_or, set, drop, ltb, leb, eqb}
+use Rattle.std.specs.Prelude.{ℕ, suc, ◌+◌, ◌-◌, ◌*◌, ◌≡◌, Bool, true, false, List, get_or, set, drop, ltb, leb, eqb, Result, Ok, Err}
 use Rattle.std.proofs.Math.Seq.{paste}
 use Rattle.words.specs.Sizes.{PIECES, LIMIT}
 use Rattle.words.specs.Pieces.{pieces_of}
 use Rattle.words.specs.Choice.{pick}
 use Rattle.words.specs.Lists.{first}
 use Rattle.words.specs.Refusal.{number_of}
+use Rattle.words.specs.declared.After as words
+use Rattle.words.specs.declared.Refusal.{Refusal}
 use Rattle.send_reliable.specs.declared.Kind.{Kind}
 use Rattle.send_reliable.specs.declared.Kind.TheVariants.{Small, Sliced}
 use Rattle.send_reliable.specs.declared.Row.{Row}
 use Rattle.send_reliable.specs.declared.SendChannelReliable.{SendChannelReliable}
 use Rattle.send_reliable.specs.declared.Ack.{Ack}
 use Rattle.send_reliable.specs.declared.Ack.TheVariants as ack
-use Rattle.send_reliable.specs.declared.Acked.{Acked}
 use Rattle.send_reliable.specs.Sender.{kind_of, as_row, no_row, live, piece_at, Valid}
 
 -- ---- the row of an id among the waiting, or `count`
@@ -52,10 +53,10 @@ pub data Outcome : Type 0 where
   unknown : Outcome
   refused : ℕ → Outcome
 
-abbrev pub ack_of : Ack → Outcome
-ack_of ack.Done = done
-ack_of ack.Unknown = unknown
-ack_of (ack.Refused e) = refused (number_of e)
+abbrev pub ack_of : Result Ack Refusal → Outcome
+ack_of (Ok ack.Done) = done
+ack_of (Ok ack.Unknown) = unknown
+ack_of (Err e) = refused (number_of e)
 
 pub record After : Type 0 where
   pub answer : Outcome
@@ -111,6 +112,9 @@ piece_kind_of s k i r (Sliced l a next) = pick (leb (pieces_of r.len) i) (after 
 
 unfoldable pub ack_piece : SendChannelReliable → ℕ → ℕ → After
 ack_piece s x i = ack_row s x (λ k r. piece_kind_of s k i r (kind_of r))
+
+abbrev pub Acked : Type 0
+Acked = words.After (Result Ack Refusal) SendChannelReliable
 
 pub record AckGives (a : After) (r : Acked) : Type 0 where
   pub answer : ack_of r.answer ≡ a.answer

@@ -1,3 +1,5 @@
+pub mod State
+pub mod Fields
 pub mod Sender
 pub mod Queue
 pub mod Ack

@@ -1,19 +1,19 @@
 -- Queueing on a reliable sender. Document 01: 10, 13, 12, 7, 11. Assumes nothing.
-use Rattle.std.specs.Prelude.{ℕ, ◌+◌, ◌-◌, ◌*◌, ◌≡◌, Bool, true, not, List, [], ◌∷◌, length, set, replicate, ltb, leb, eqb}
+use Rattle.std.specs.Prelude.{ℕ, ◌+◌, ◌-◌, ◌*◌, ◌≡◌, Bool, true, not, List, [], ◌∷◌, length, set, replicate, ltb, leb, eqb, Result, Ok, Err}
 use Rattle.words.specs.Sizes.{SLICE_SIZE, PIECES, LIMIT}
 use Rattle.words.specs.Pieces.{pieces_of}
 use Rattle.words.specs.Choice.{pick, refusal}
 use Rattle.words.specs.Lists.{splice, lowest_free_of}
 use Rattle.words.specs.Refusal.{number_of}
+use Rattle.words.specs.declared.After.{After}
+use Rattle.words.specs.declared.MessageId.{MessageId}
+use Rattle.words.specs.declared.Refusal.{Refusal}
 use Rattle.channel.specs.Settings.{stores_hold_of, lane_len_of}
 use Rattle.channel.specs.declared.Settings.{Settings}
 use Rattle.send_reliable.specs.declared.Kind.{Kind}
 use Rattle.send_reliable.specs.declared.Kind.TheVariants.{Small, Sliced}
 use Rattle.send_reliable.specs.declared.Piece.{Piece}
 use Rattle.send_reliable.specs.declared.SendChannelReliable.{SendChannelReliable}
-use Rattle.send_reliable.specs.declared.Queue.{Queue}
-use Rattle.send_reliable.specs.declared.Queue.TheVariants as queue
-use Rattle.send_reliable.specs.declared.Queued.{Queued}
 use Rattle.send_reliable.specs.Sender.{unsent, as_row, no_piece, Valid}
 
 -- by the settings, the next id and the memory used: a message of n bytes, with stores of these lengths lent
@@ -86,9 +86,9 @@ pub data Outcome : Type 0 where
   taken : ℕ → Outcome
   refusing : ℕ → Outcome
 
-abbrev pub queue_of : Queue → Outcome
-queue_of (queue.Taken id) = taken id.0
-queue_of (queue.Refused e) = refusing (number_of e)
+abbrev pub queue_of : Result MessageId Refusal → Outcome
+queue_of (Ok id) = taken id.0
+queue_of (Err e) = refusing (number_of e)
 
 abbrev pub answer_at : SendChannelReliable → Spot → Outcome
 answer_at s (cell i) = taken s.next_reliable_message_id
@@ -110,6 +110,9 @@ abbrev pub lanes_at : SendChannelReliable → Spot → List ℕ → List ℕ →
 lanes_at s (cell i) msg store = store
 lanes_at s (lane l) msg store = splice (l * lane_len_of s.settings) msg store
 lanes_at s (refused e) msg store = store
+
+abbrev pub Queued : Type 0
+Queued = After (Result MessageId Refusal) SendChannelReliable
 
 pub record QueueGives (s : SendChannelReliable) (msg small lanes small' lanes' : List ℕ) (r : Queued) : Type 0 where
   pub answer : queue_of r.answer ≡ answer_at s (spot_of s (length msg) (length small) (length lanes))

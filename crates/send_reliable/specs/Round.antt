@@ -1,15 +1,17 @@
 -- A reliable round: select, then pack, then encode. Document 01, "Reliable round" and "Numbers a caller may see": 10, 13 of the given
 -- sequence, 14, 13 of numbers that it would need, 15. Assumes nothing.
-use Rattle.std.specs.Prelude.{ℕ, ◌≡◌, true, not, List, [], ◌∷◌, length, ltb, leb, eqb}
+use Rattle.std.specs.Prelude.{ℕ, ◌≡◌, true, not, List, [], ◌∷◌, length, ltb, leb, eqb, Result}
 use Rattle.words.specs.Sizes.{LIMIT}
 use Rattle.words.specs.Choice.{pick, refusal}
+use Rattle.words.specs.declared.After.{After}
+use Rattle.words.specs.declared.Refusal.{Refusal}
 use Rattle.channel.specs.Settings.{stores_hold_of}
 use Rattle.channel.specs.declared.Settings.{Settings}
 use Rattle.pack.specs.Pack.{Pack, pack}
 use Rattle.pack.specs.Encode.{Lent, round_refusal}
 use Rattle.pack.specs.Round.{Gives}
+use Rattle.pack.specs.declared.Written.{Written}
 use Rattle.send_reliable.specs.declared.SendChannelReliable.{SendChannelReliable}
-use Rattle.send_reliable.specs.declared.Round.{Round}
 use Rattle.send_reliable.specs.Sender.{Valid}
 use Rattle.send_reliable.specs.Select.{Chosen, select, with_chosen}
 
@@ -56,6 +58,9 @@ unfoldable pub state_after : SendChannelReliable → Given → SendChannelReliab
 state_after s g = with_chosen s g.now (chosen s g)
 
 -- ---- what a round gives, all of it: a refusal changes no state, no byte and no entry
+
+abbrev pub Round : Type 0
+Round = After (Result Written Refusal) SendChannelReliable
 
 pub record RoundGives (s : SendChannelReliable) (g : Given) (out table out' table' : List ℕ) (r : Round) : Type 0 where
   pub went : Gives (lent s g) g.seq g.allowance (packs s g) (refusal_of s g (length out) (length table)) out table out' table' r.answer

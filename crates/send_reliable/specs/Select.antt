@@ -1,5 +1,5 @@
 -- What a reliable round chooses. Document 01, "Reliable round". Assumes nothing.
-use Rattle.std.specs.Prelude.{ℕ, zero, suc, ◌+◌, ◌-◌, ◌*◌, Bool, true, List, [], ◌∷◌, ◌++◌, get_or, set, ltb, leb}
+use Rattle.std.specs.Prelude.{ℕ, zero, suc, ◌+◌, ◌-◌, ◌*◌, Bool, true, List, [], ◌∷◌, ◌++◌, get_or, set, ltb, leb, Option, None, Some}
 use Rattle.words.specs.Sizes.{SLICE_SIZE, PIECES}
 use Rattle.words.specs.Choice.{pick}
 use Rattle.words.specs.Pieces.{pieces_of, piece_len_of}
@@ -7,22 +7,19 @@ use Rattle.words.specs.Lists.{reached}
 use Rattle.channel.specs.Settings.{lane_len_of}
 use Rattle.channel.specs.declared.Settings.{Settings}
 use Rattle.pack.specs.Pack.{Item}
-use Rattle.send_reliable.specs.declared.Sent.{Sent}
-use Rattle.send_reliable.specs.declared.Sent.TheVariants.{Never, At}
-use Rattle.send_reliable.specs.declared.Sending.{Sending}
 use Rattle.send_reliable.specs.declared.Kind.{Kind}
 use Rattle.send_reliable.specs.declared.Kind.TheVariants.{Small, Sliced}
 use Rattle.send_reliable.specs.declared.Row.{Row}
 use Rattle.send_reliable.specs.declared.Piece.{Piece}
 use Rattle.send_reliable.specs.declared.SendChannelReliable.{SendChannelReliable}
-use Rattle.send_reliable.specs.Sender.{last_sent_of, kind_of, as_row, no_row, no_piece, live}
+pub use Rattle.send_reliable.specs.declared.Visit.{Visit}
+use Rattle.send_reliable.specs.Sender.{Sending, last_sent_of, kind_of, as_row, no_row, no_piece, live}
 
 -- ---- what a round looks at, in its order: ids rise; a sliced message starts at the piece after its last sent one
 
 -- a piece of the message in a row; a small message is one piece
-pub record Visit : Type 0 where
-  pub row : ℕ
-  pub piece : ℕ
+abbrev pub no_visit : Visit
+no_visit = record { row = 0; piece = 0 }
 
 -- n pieces of a row, from the i-th on
 unfoldable pub up_from : ℕ → ℕ → ℕ → List Visit
@@ -45,12 +42,12 @@ visits_from k (r ∷ rs) = row_visits k r.len (kind_of r) ++ visits_from (k + 1)
 -- ---- what goes
 
 -- never sent, or the elapsed time is at least the resend time
-abbrev pub due : ℕ → ℕ → Sent → Bool
-due resend now Never = true
-due resend now (At t) = leb resend (now - t)
+abbrev pub due : ℕ → ℕ → Option ℕ → Bool
+due resend now None = true
+due resend now (Some t) = leb resend (now - t)
 
 abbrev pub sent_at : ℕ → Sending
-sent_at now = record { sent = 1; time = now }
+sent_at now = Some now
 
 -- what is left of the allowance, what was chosen so far, and the tables of messages and pieces with their sendings
 pub record Chosen : Type 0 where

@@ -1,21 +1,22 @@
 -- The state of the sending end of a reliable channel: a new one, and what is always true of it. Assumes nothing.
-use Rattle.std.specs.Prelude.{ℕ, ◌+◌, ◌*◌, ◌≤◌, ◌<◌, ◌≡◌, true, false, List, length, get_or, take, drop, replicate, eqb}
+use Rattle.std.specs.Prelude.{ℕ, ◌+◌, ◌*◌, ◌≤◌, ◌<◌, ◌≡◌, true, false, List, length, get_or, take, drop, replicate, eqb, Option, None, Some, Result}
 use Rattle.words.specs.Sizes.{SLICE_SIZE, SLOTS, LANES, PIECES, LIMIT}
 use Rattle.words.specs.Choice.{pick}
 use Rattle.words.specs.Pieces.{pieces_of}
 use Rattle.words.specs.Lists.{holds, total, All, Pairs}
+use Rattle.words.specs.declared.After.{After}
 use Rattle.words.specs.declared.MessageId.{MessageId}
+use Rattle.words.specs.declared.Refusal.{Refusal}
 use Rattle.channel.specs.Settings.{settings_refusal, setup_number, Good, least_settings}
 use Rattle.channel.specs.declared.Settings.{Settings}
-use Rattle.send_reliable.specs.declared.Sent.{Sent}
-use Rattle.send_reliable.specs.declared.Sent.TheVariants.{Never, At}
-use Rattle.send_reliable.specs.declared.Sending.{Sending}
 use Rattle.send_reliable.specs.declared.Kind.{Kind}
 use Rattle.send_reliable.specs.declared.Kind.TheVariants.{Small, Sliced}
 use Rattle.send_reliable.specs.declared.Row.{Row}
 use Rattle.send_reliable.specs.declared.Piece.{Piece}
 use Rattle.send_reliable.specs.declared.SendChannelReliable.{SendChannelReliable}
-use Rattle.send_reliable.specs.declared.Made.{Made}
+
+abbrev pub Made : Type 0
+Made = After (Result (Unit {0}) Refusal) SendChannelReliable
 
 abbrev pub ROWS : ℕ
 ROWS = SLOTS + LANES
@@ -23,11 +24,14 @@ ROWS = SLOTS + LANES
 -- ---- what a table's plain fields say, and a row by its kind
 
 -- when something was last sent, if ever
-abbrev pub last_sent_of : Sending → Sent
-last_sent_of t = pick (eqb t.sent 0) Never (At t.time)
+abbrev pub Sending : Type 0
+Sending = Option ℕ
+
+abbrev pub last_sent_of : Sending → Option ℕ
+last_sent_of t = t
 
 abbrev pub unsent : Sending
-unsent = record { sent = 0; time = 0 }
+unsent = None
 
 -- where a waiting message lies
 abbrev pub kind_of : Row → Kind
@@ -69,9 +73,9 @@ abbrev pub live : SendChannelReliable → List Row
 live s = take s.count s.rows
 
 -- nothing was sent after the latest accepted time
-abbrev pub SentBy : ℕ → Sent → Type 0
-SentBy latest Never = Unit
-SentBy latest (At t) = t ≤ latest
+abbrev pub SentBy : ℕ → Option ℕ → Type 0
+SentBy latest None = Unit
+SentBy latest (Some t) = t ≤ latest
 
 -- the pieces of lane l, of a message of n bytes, which has a acknowledged ones
 abbrev pub piece_at : SendChannelReliable → ℕ → ℕ → Piece

@@ -7,22 +7,22 @@ use native.Mathlib.Omega.{arith}
 use native.Mathlib.Numerals.{add-one}
 use borrow.Author.Tests.{lt-ltb, le-ltb, le-leb, lt-leb, ltb-true, ltb-false, leb-true, leb-false, eq-eqb, ne_eqb}
 use lib.Dec.{ltb}
-use lib.ListN.{length, get_or, take, drop, length-append, drop_of_length-le}
-use lib.Seq.{length-take-le, drop-cons, get_or-take}
+use lib.ListN.{set, length, get_or, take, drop, length-append, drop_of_length-le}
+use lib.Seq.{length-take-le, drop-cons}
 use Rattle.words.specs.Sizes.{SLICE_SIZE, SLOTS, LANES, PIECES, LIMIT}
 use Rattle.words.specs.Pieces.{pieces_of, piece_len_of}
-use Rattle.words.specs.Lists.{splice, total, All, reached}
+use Rattle.words.specs.Lists.{total, All, reached}
 use Rattle.words.proofs.Lists.{total-snoc, all_snoc, all_append}
 use Rattle.words.proofs.Tables.{pick-cases}
 use Rattle.channel.specs.Settings.{Good, small_len_of, lane_len_of, lanes_len_of, stores_hold_of}
 use Rattle.channel.specs.declared.Settings.{Settings}
 use Rattle.channel.proofs.Good.{lane-most, lane-within, stores-room}
-use Rattle.pack.specs.Pack.{Item, ITEM, items_in}
+use Rattle.pack.specs.Pack.{Item, items_of, items_in}
 use Rattle.pack.specs.Encode.{Lent}
 use Rattle.pack.specs.Rows as rows
-use Rattle.pack.specs.Steps.{item_words}
+use Rattle.pack.specs.declared.Item as code
 use Rattle.pack.specs.Round.{ITEMS}
-use Rattle.pack.proofs.Tables.{length-items, items-put}
+use Rattle.pack.proofs.Tables.{length-items, items-put, items-taken}
 use Rattle.pack.proofs.Pieces.{pieces-most, pieces-needed, pieces-two, piece-most, piece-within}
 use Rattle.send_unreliable.specs.Sender.{waiting, is_small, Valid}
 use Rattle.send_unreliable.specs.Round.{Chosen, pieces_from, go, starting, select}
@@ -93,19 +93,18 @@ total-pieces id n place i (suc (suc k)) h =
 
 -- a loop that puts pieces to a table: the first items, and the pieces to come
 module _ (id n place first : ℕ) where
-  abbrev pub put_from : List ℕ → ℕ → List Item
+  abbrev pub put_from : List code.Item → ℕ → List Item
   put_from t i = items_in t 0 (first + i) ++ pieces_from id n place i (pieces_of n - i)
 
-  pub put-turn : (t u : List ℕ) (i num len : ℕ) → num ≡ pieces_of n → len ≡ piece_len_of n i → i < pieces_of n → ITEM * (first + i + 1) ≤ length t
-      → u ≡ splice (ITEM * (first + i)) (item_words (record { num = num; id = id; index = i; place = place + i * SLICE_SIZE; len = len })) t
-      → put_from u (i + 1) ≡ put_from t i
+  pub put-turn : (t : List code.Item) (i num len : ℕ) → num ≡ pieces_of n → len ≡ piece_len_of n i → i < pieces_of n → first + i < length t
+      → put_from (set t (first + i) (record { num = num; id = record { 0 = id }; index = record { 0 = i }; place = place + i * SLICE_SIZE; len = len })) (i + 1) ≡ put_from t i
   unfolding pieces_from
-  put-turn t u i num len en el h r e =
+  put-turn t i num len en el h r =
       let a : first + (i + 1) ≡ first + i + 1 = omega arith in
       let b : pieces_of n - i ≡ suc (pieces_of n - (i + 1)) = omega arith in
-      rw (a, b, e, items-put t (first + i) _ r, en, el) (append_assoc (items_in t 0 (first + i)) _ (pieces_from id n place (i + 1) (pieces_of n - (i + 1))))
+      rw (a, b, items-put t (first + i) _ r, en, el) (append_assoc (items_in t 0 (first + i)) _ (pieces_from id n place (i + 1) (pieces_of n - (i + 1))))
 
-  pub put_all : (t : List ℕ) (i k : ℕ) → k ≡ pieces_of n → i ≤ k → k ≤ i → items_in t 0 (first + k) ≡ put_from t i
+  pub put_all : (t : List code.Item) (i k : ℕ) → k ≡ pieces_of n → i ≤ k → k ≤ i → items_in t 0 (first + k) ≡ put_from t i
   unfolding pieces_from
   put_all t i k e h l =
       let a : k ≡ i = omega arith in
@@ -181,13 +180,13 @@ module _ (s : SendChannelUnreliable) (v : Valid s) where
 
 -- ---- a turn of choosing, as the code takes it
 
-module _ (s : Settings) (k : Selection) (t : List ℕ) (n : ℕ) where
-  pub put_small : n ≤ SLICE_SIZE → n ≤ k.left → ITEM * (k.items + 1) ≤ length t → (u : List ℕ)
-      → u ≡ splice (ITEM * k.items) (item_words (record { num = 0; id = 0; index = 0; place = k.small * SLICE_SIZE; len = n })) t
-      → chosen_at (record { left = k.left - n; small = k.small + 1; sliced = k.sliced; id = k.id; items = k.items + 1 }) u ≡ go s (chosen_at k t) n
-  put_small a h r u e = rw (e, items-put t k.items _ r) (sym (small-goes s (chosen_at k t) n (le-leb _ _ a) h))
+module _ (s : Settings) (k : Selection) (t : List code.Item) (n : ℕ) where
+  pub put_small : n ≤ SLICE_SIZE → n ≤ k.left → k.items < length t
+      → chosen_at (record { left = k.left - n; small = k.small + 1; sliced = k.sliced; id = k.id; items = k.items + 1 })
+      (set t k.items (record { num = 0; id = record { 0 = 0 }; index = record { 0 = 0 }; place = k.small * SLICE_SIZE; len = n })) ≡ go s (chosen_at k t) n
+  put_small a h r = rw (items-put t k.items _ r) (sym (small-goes s (chosen_at k t) n (le-leb _ _ a) h))
 
-  pub put-sliced : SLICE_SIZE < n → n ≤ k.left → (u : List ℕ) (m : ℕ)
+  pub put-sliced : SLICE_SIZE < n → n ≤ k.left → (u : List code.Item) (m : ℕ)
       → items_in u 0 m ≡ items_in t 0 k.items ++ pieces_from k.id n (k.sliced * lane_len_of s) 0 (pieces_of n)
       → chosen_at (record { left = k.left - n; small = k.small; sliced = k.sliced + 1; id = k.id + 1; items = m }) u ≡ go s (chosen_at k t) n
   put-sliced a h u m e = rw e (sym (sliced-goes s (chosen_at k t) n (lt-leb _ _ a) h))
@@ -214,28 +213,23 @@ module _ (s : Settings) (k : Selection) (t : List ℕ) (n : ℕ) where
         (omega arith, r.long.0, omega (arith, r.items, g.slots-most, g.lanes-most))
 
 -- the messages from the i-th on
-module _ (s : Settings) (lens : List ℕ) (count i : ℕ) (h : i < count) (l : count ≤ length lens) (c : Chosen) where
-  rest-cons : drop i (take count lens) ≡ get_or lens i 0 ∷ drop (i + 1) (take count lens)
-  rest-cons =
-      let e : length (take count lens) ≡ count = length-take-le count lens l in
-      drop-cons (take count lens) i 0 (omega arith) ∙ rw (get_or-take count lens i 0 h, add-one)
+module _ (s : Settings) (lens : List ℕ) (i : ℕ) (h : i < length lens) (c : Chosen) where
+  rest-cons : drop i lens ≡ get_or lens i 0 ∷ drop (i + 1) lens
+  rest-cons = drop-cons lens i 0 h ∙ rw add-one
 
-  pub next-room : Room s c (drop i (take count lens)) → Room s c (get_or lens i 0 ∷ drop (i + 1) (take count lens))
+  pub next-room : Room s c (drop i lens) → Room s c (get_or lens i 0 ∷ drop (i + 1) lens)
   next-room r = rw rest-cons at r
 
-  pub next-turn : (d e : Chosen) → d ≡ go s c (get_or lens i 0) → reached (go s) c (drop i (take count lens)) ≡ e → reached (go s) d (drop (i + 1) (take count lens)) ≡ e
+  pub next-turn : (d e : Chosen) → d ≡ go s c (get_or lens i 0) → reached (go s) c (drop i lens) ≡ e → reached (go s) d (drop (i + 1) lens) ≡ e
   unfolding reached
   next-turn d e ed r = rw ed (rw rest-cons at r)
 
-  pub turn-room : Good s → (d : Chosen) → d ≡ go s c (get_or lens i 0) → Room s c (drop i (take count lens)) → Room s d (drop (i + 1) (take count lens))
-  turn-room g d ed r = rw ed (room-turn s g c (get_or lens i 0) (drop (i + 1) (take count lens)) (next-room r))
+  pub turn-room : Good s → (d : Chosen) → d ≡ go s c (get_or lens i 0) → Room s c (drop i lens) → Room s d (drop (i + 1) lens)
+  turn-room g d ed r = rw ed (room-turn s g c (get_or lens i 0) (drop (i + 1) lens) (next-room r))
 
-pub all-passed : (s : Settings) (lens : List ℕ) (count i : ℕ) (c e : Chosen) → count ≤ i → count ≤ length lens → reached (go s) c (drop i (take count lens)) ≡ e → c ≡ e
+pub all-passed : (s : Settings) (lens : List ℕ) (i : ℕ) (c e : Chosen) → length lens ≤ i → reached (go s) c (drop i lens) ≡ e → c ≡ e
 unfolding reached
-all-passed s lens count i c e h l r =
-    let n : length (take count lens) ≡ count = length-take-le count lens l in
-    let m : length (take count lens) ≤ i = omega arith in
-    rw (drop_of_length-le (take count lens) m) at r
+all-passed s lens i c e h r = rw (drop_of_length-le lens h) at r
 
 -- ---- the ids that go
 
@@ -288,7 +282,7 @@ module _ (s : Settings) (g : Good s) (l : Lent) (small-room : small_len_of s ≤
 
 -- ---- what the code has chosen, in the first items of table t
 
-module _ (s : SendChannelUnreliable) (v : Valid s) (allowance : ℕ) (k : Selection) (t : List ℕ)
+module _ (s : SendChannelUnreliable) (v : Valid s) (allowance : ℕ) (k : Selection) (t : List code.Item)
     (e : chosen_at k t ≡ reached (go s.settings) (starting allowance s.sliced_message_id) (waiting s)) where
   pub selected : chosen_at k t ≡ select s allowance
   unfolding select
@@ -300,12 +294,16 @@ module _ (s : SendChannelUnreliable) (v : Valid s) (allowance : ℕ) (k : Select
       let m = items-most s.settings v.settings _ (rw (← e) at r) in
       omega (arith, length-items t 0 k.items)
 
-  pub chosen-go : (l : Lent) → stores_hold_of s.settings (length l.small) (length l.lanes) ≡ true → k.id ≤ LIMIT → All (rows.Chosen l) (items_in t 0 k.items)
+  -- as the items that are handed on
+  pub chosen-items : k.items ≤ length t → items_of (take k.items t) ≡ (select s allowance).items
+  chosen-items h = items-taken t k.items h ∙ ap (λ (c : Chosen). c.items) selected
+
+  pub chosen-go : (l : Lent) → stores_hold_of s.settings (length l.small) (length l.lanes) ≡ true → k.id ≤ LIMIT → k.items ≤ length t → All (rows.Chosen l) (items_of (take k.items t))
   unfolding All
-  chosen-go l h i =
+  chosen-go l h i q =
       let r = stores-room s.settings (length l.small) (length l.lanes) h in
       let w : (reached (go s.settings) (starting allowance s.sliced_message_id) (waiting s)).id ≤ LIMIT = rw (← e) i in
-      rw (← ap (λ (c : Chosen). c.items) e) at (all-chosen s.settings v.settings l r.0 r.1 (waiting s) _ (room-start s v allowance) w tt)
+      rw (items-taken t k.items q ∙ ap (λ (c : Chosen). c.items) e) (all-chosen s.settings v.settings l r.0 r.1 (waiting s) _ (room-start s v allowance) w tt)
 
 -- ---- what is left and what goes come to the allowance
 

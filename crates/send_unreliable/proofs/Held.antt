@@ -20,12 +20,11 @@ use Rattle.channel.proofs.Good.{lane-within}
 use Rattle.pack.specs.Pack.{Item}
 use Rattle.pack.specs.Encode.{end_to_end}
 use Rattle.pack.proofs.Pieces.{pieces-two}
-use Rattle.send_unreliable.specs.Sender.{ROWS, empty_of, waiting, is_small, Valid, Spot, cell, lane, dropped, refused, spot_of, state_at, answer_at, taken, queue_of, small_at_of, lanes_at, queued, QueueGives}
+use Rattle.send_unreliable.specs.Sender.{Queued, ROWS, empty_of, waiting, is_small, Valid, Spot, cell, lane, dropped, refused, spot_of, state_at, answer_at, taken, queue_of, small_at_of, lanes_at, queued, QueueGives}
 use Rattle.send_unreliable.specs.Round.{Chosen, pieces_from, go, starting, select}
 use Rattle.send_unreliable.specs.Steps.{small_one, sliced_one}
 use Rattle.send_unreliable.specs.Laws.{Lie, none_lie, small_lies, sliced-lies, Holds, covered, item_bytes}
 use Rattle.send_unreliable.specs.declared.SendChannelUnreliable.{SendChannelUnreliable}
-use Rattle.send_unreliable.specs.declared.Queued.{Queued}
 use Rattle.send_unreliable.proofs.Spots.{spot-cell, spot-lane}
 use Rattle.send_unreliable.proofs.Valid.{rows-free, grown}
 use Rattle.send_unreliable.proofs.Chosen.{small-passed, small-goes, sliced-passed, sliced-goes, sliced-is}

@@ -10,14 +10,7 @@ use Rattle.words.proofs.Tables.{clash}
 use Rattle.channel.specs.Settings.{small_len_of, lane_len_of, lanes_len_of, stores_hold_of}
 use Rattle.channel.proofs.Good.{stores-room}
 use Rattle.send_unreliable.specs.Sender.{is_small, Spot, cell, lane, dropped, refused, entry_refusal, spot_of}
-use Rattle.send_unreliable.specs.Steps.{holding}
 use Rattle.send_unreliable.specs.declared.SendChannelUnreliable.{SendChannelUnreliable}
-
--- ---- the spot depends on four numbers alone
-
-pub same_spot : (s : SendChannelUnreliable) (n small lanes : ℕ) → spot_of (holding s.settings s.memory_usage_bytes s.small s.sliced) n small lanes ≡ spot_of s n small lanes
-unfolding spot_of entry_refusal
-same_spot s n small lanes = refl
 
 -- ---- the spot, by the tests
 

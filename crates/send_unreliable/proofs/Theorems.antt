@@ -15,24 +15,22 @@ use Rattle.words.proofs.Tables.{clash}
 use Rattle.words.proofs.Unique.{told-apart, refusal_of, refusal-undone}
 use Rattle.channel.specs.Settings.{least_settings}
 use Rattle.channel.specs.declared.Settings.{Settings}
-use Rattle.channel.specs.declared.Setup.{Setup}
+use Rattle.std.specs.Prelude.{Result, Ok, Err}
+use Rattle.words.specs.declared.Refusal.{Refusal}
 use Rattle.channel.proofs.Unique.{one-setup}
 use Rattle.pack.specs.Pack.{Item, payload}
 use Rattle.pack.specs.Round.{Sums, sent, refused, went_of, sums}
-use Rattle.pack.specs.declared.Went.{Went}
+use Rattle.pack.specs.declared.Written.{Written}
 use Rattle.pack.proofs.Theorems.{payload-kept}
 use Rattle.pack.proofs.Round.{one-went}
-use Rattle.send_unreliable.specs.Sender.{empty_of, waiting, is_small, Valid, available, can_send_of, MadeGives, Spot, cell, lane, dropped, entry_refusal, spot_of, state_at, Outcome, taken, drop, refusing, queue_of, answer_at, small_at_of, lanes_at, QueueGives}
+use Rattle.send_unreliable.specs.Sender.{Made, Queued, empty_of, waiting, is_small, Valid, available, can_send_of, MadeGives, Spot, cell, lane, dropped, entry_refusal, spot_of, state_at, Outcome, taken, drop, refusing, queue_of, answer_at, small_at_of, lanes_at, QueueGives}
 use Rattle.send_unreliable.specs.Sender as sender
-use Rattle.send_unreliable.specs.Round.{Given, pieces_from, go, starting, select, packs, lent, RoundGives}
+use Rattle.send_unreliable.specs.Round.{Round, Given, pieces_from, go, starting, select, packs, lent, RoundGives}
 use Rattle.send_unreliable.specs.Round as rounds
 use Rattle.send_unreliable.specs.Laws.{cells_taken, lanes_taken}
 use Rattle.send_unreliable.specs.declared.SendChannelUnreliable.{SendChannelUnreliable}
-use Rattle.send_unreliable.specs.declared.Made.{Made}
 use Rattle.send_unreliable.specs.declared.Queue.{Queue}
 use Rattle.send_unreliable.specs.declared.Queue.TheVariants as queue
-use Rattle.send_unreliable.specs.declared.Queued.{Queued}
-use Rattle.send_unreliable.specs.declared.Round.{Round}
 use Rattle.send_unreliable.proofs.Lists.{total-same}
 use Rattle.send_unreliable.proofs.Chosen.{sliced-is, spent_all}
 use Rattle.send_unreliable.proofs.Lowest.{lowest-taken}
@@ -146,25 +144,25 @@ message-not-taken s msg small lanes small' lanes' r g n =
 
 -- ---- one outcome only; the other calls' promises are equations of their answer
 
-abbrev queue_from : Outcome → Queue
-queue_from taken = queue.Taken
-queue_from drop = queue.Dropped
-queue_from (refusing n) = queue.Refused (refusal_of n)
+abbrev queue_from : Outcome → Result Queue Refusal
+queue_from taken = Ok queue.Taken
+queue_from drop = Ok queue.Dropped
+queue_from (refusing n) = Err (refusal_of n)
 
-queue-undone : (a : Queue) → queue_from (queue_of a) ≡ a
-queue-undone queue.Taken = refl
-queue-undone queue.Dropped = refl
-queue-undone (queue.Refused e) = ap queue.Refused (refusal-undone e)
+queue-undone : (a : Result Queue Refusal) → queue_from (queue_of a) ≡ a
+queue-undone (Ok queue.Taken) = refl
+queue-undone (Ok queue.Dropped) = refl
+queue-undone (Err e) = ap Err (refusal-undone e)
 
 pub one-made : (channel : ℕ) (s : Settings) (r q : Made) → MadeGives channel s r → MadeGives channel s q → r ≡ q
 one-made channel s r q x y =
-    ap (λ (b : Setup). record { answer = b; state = r.state }) (one-setup r.answer q.answer (x.number ∙ sym y.number))
+    ap (λ (b : Result (Unit {0}) Refusal). record { answer = b; state = r.state }) (one-setup r.answer q.answer (x.number ∙ sym y.number))
     ∙ ap (λ (u : SendChannelUnreliable). record { answer = q.answer; state = u }) (x.state ∙ sym y.state)
 
 pub one-queued : (s : SendChannelUnreliable) (msg small lanes small₁ lanes₁ small₂ lanes₂ : List ℕ) (r q : Queued)
     → QueueGives s msg small lanes small₁ lanes₁ r → QueueGives s msg small lanes small₂ lanes₂ q → (r ≡ q) × (small₁ ≡ small₂) × (lanes₁ ≡ lanes₂)
 one-queued s msg small lanes small₁ lanes₁ small₂ lanes₂ r q x y = (
-  ap (λ (b : Queue). record { answer = b; state = r.state }) (told-apart queue_of queue_from queue-undone r.answer q.answer (x.answer ∙ sym y.answer))
+  ap (λ (b : Result Queue Refusal). record { answer = b; state = r.state }) (told-apart queue_of queue_from queue-undone r.answer q.answer (x.answer ∙ sym y.answer))
       ∙ ap (λ (u : SendChannelUnreliable). record { answer = q.answer; state = u }) (x.state ∙ sym y.state),
   x.small-store ∙ sym y.small-store,
   x.lane-store ∙ sym y.lane-store,
@@ -174,7 +172,7 @@ pub one-round : (s : SendChannelUnreliable) (g : Given) (out table out₁ table�
     → RoundGives s g out table out₁ table₁ r → RoundGives s g out table out₂ table₂ q → (r ≡ q) × (out₁ ≡ out₂) × (table₁ ≡ table₂)
 one-round s g out table out₁ table₁ out₂ table₂ r q x y =
     let a = one-went _ _ _ _ _ out table out₁ table₁ out₂ table₂ r.answer q.answer x.went y.went in (
-      ap (λ (b : Went). record { answer = b; state = r.state }) a.0
+      ap (λ (b : Result Written Refusal). record { answer = b; state = r.state }) a.0
           ∙ ap (λ (u : SendChannelUnreliable). record { answer = q.answer; state = u }) (x.state ∙ sym y.state),
       a.1,
       a.2,

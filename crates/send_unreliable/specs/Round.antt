@@ -1,17 +1,19 @@
 -- An unreliable round: it empties the queue. Document 01, "Unreliable": a message longer than the remaining allowance is dropped for good;
 -- others go once. 10, 13 of the given sequence, 13 of numbers that it would need, 15. Assumes nothing.
-use Rattle.std.specs.Prelude.{ℕ, zero, suc, ◌+◌, ◌-◌, ◌*◌, ◌≡◌, false, not, List, [], ◌∷◌, ◌++◌, length, ltb, leb, eqb}
+use Rattle.std.specs.Prelude.{ℕ, zero, suc, ◌+◌, ◌-◌, ◌*◌, ◌≡◌, false, not, List, [], ◌∷◌, ◌++◌, length, ltb, leb, eqb, Result}
 use Rattle.words.specs.Sizes.{SLICE_SIZE, LIMIT}
 use Rattle.words.specs.Pieces.{pieces_of, piece_len_of}
 use Rattle.words.specs.Choice.{pick, refusal}
 use Rattle.words.specs.Lists.{reached}
+use Rattle.words.specs.declared.After.{After}
+use Rattle.words.specs.declared.Refusal.{Refusal}
 use Rattle.channel.specs.Settings.{stores_hold_of, lane_len_of}
 use Rattle.channel.specs.declared.Settings.{Settings}
 use Rattle.pack.specs.Pack.{Item, Pack, pack}
 use Rattle.pack.specs.Encode.{Lent, round_refusal}
 use Rattle.pack.specs.Round.{Gives}
+use Rattle.pack.specs.declared.Written.{Written}
 use Rattle.send_unreliable.specs.declared.SendChannelUnreliable.{SendChannelUnreliable}
-use Rattle.send_unreliable.specs.declared.Round.{Round}
 use Rattle.send_unreliable.specs.Sender.{empty_of, waiting, is_small, Valid}
 
 -- what a round is given: its first sequence, the allowance and the two stores
@@ -90,6 +92,9 @@ refusal_of s g out table =
     )
 
 -- ---- what a round gives, all of it: the queue is empty afterwards; a refusal changes no state, no byte and no entry
+
+abbrev pub Round : Type 0
+Round = After (Result Written Refusal) SendChannelUnreliable
 
 pub record RoundGives (s : SendChannelUnreliable) (g : Given) (out table out' table' : List ℕ) (r : Round) : Type 0 where
   pub went : Gives (lent s g) g.seq g.allowance (packs s g) (refusal_of s g (length out) (length table)) out table out' table' r.answer

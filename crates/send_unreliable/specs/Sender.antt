@@ -1,16 +1,22 @@
 -- The sending end of an unreliable channel: its state, and queueing. Document 01, part 5: 10, 12, Dropped, 11. Assumes nothing.
-use Rattle.std.specs.Prelude.{ℕ, ◌+◌, ◌-◌, ◌*◌, ◌≤◌, ◌≡◌, Bool, not, List, [], ◌∷◌, length, get_or, set, take, replicate, ltb, leb, eqb}
+use Rattle.std.specs.Prelude.{ℕ, ◌+◌, ◌-◌, ◌*◌, ◌≤◌, ◌≡◌, Bool, not, List, [], ◌∷◌, length, get_or, set, take, replicate, ltb, leb, eqb, Result, Ok, Err}
 use Rattle.words.specs.Sizes.{SLICE_SIZE, SLOTS, LANES, LIMIT}
 use Rattle.words.specs.Choice.{pick, refusal}
 use Rattle.words.specs.Lists.{splice, total, All}
 use Rattle.words.specs.Refusal.{number_of}
+use Rattle.words.specs.declared.After.{After}
+use Rattle.words.specs.declared.Refusal.{Refusal}
 use Rattle.channel.specs.Settings.{settings_refusal, setup_number, Good, least_settings, lane_len_of, stores_hold_of}
 use Rattle.channel.specs.declared.Settings.{Settings}
 use Rattle.send_unreliable.specs.declared.SendChannelUnreliable.{SendChannelUnreliable}
-use Rattle.send_unreliable.specs.declared.Made.{Made}
 use Rattle.send_unreliable.specs.declared.Queue.{Queue}
 use Rattle.send_unreliable.specs.declared.Queue.TheVariants as queue
-use Rattle.send_unreliable.specs.declared.Queued.{Queued}
+
+abbrev pub Made : Type 0
+Made = After (Result (Unit {0}) Refusal) SendChannelUnreliable
+
+abbrev pub Queued : Type 0
+Queued = After (Result Queue Refusal) SendChannelUnreliable
 
 abbrev pub ROWS : ℕ
 ROWS = SLOTS + LANES
@@ -114,10 +120,10 @@ pub data Outcome : Type 0 where
   drop : Outcome
   refusing : ℕ → Outcome
 
-abbrev pub queue_of : Queue → Outcome
-queue_of queue.Taken = taken
-queue_of queue.Dropped = drop
-queue_of (queue.Refused e) = refusing (number_of e)
+abbrev pub queue_of : Result Queue Refusal → Outcome
+queue_of (Ok queue.Taken) = taken
+queue_of (Ok queue.Dropped) = drop
+queue_of (Err e) = refusing (number_of e)
 
 abbrev pub answer_at : Spot → Outcome
 answer_at cell = taken

@@ -1,45 +1,32 @@
 -- What the private functions give. Assumes nothing.
-use Rattle.std.specs.Prelude.{ℕ, ◌+◌, ◌*◌, ◌≤◌, List, [], length}
+use Rattle.std.specs.Prelude.{ℕ, ◌+◌, ◌*◌, ◌≤◌, List, length, Result, Ok, Err}
 use Rattle.words.specs.Sizes.{PIECES, LIMIT}
 use Rattle.words.specs.Choice.{pick}
 use Rattle.words.specs.Lists.{total, All}
 use Rattle.words.specs.Refusal.{number_of}
+use Rattle.words.specs.declared.Refusal.{Refusal}
 use Rattle.channel.specs.Settings.{lane_len_of}
 use Rattle.channel.specs.declared.Settings.{Settings}
 use Rattle.pack.specs.Pack.{items_in}
+use Rattle.pack.specs.declared.Item as code
 use Rattle.send_unreliable.specs.Sender.{is_small, Spot, cell, lane, dropped, refused}
 use Rattle.send_unreliable.specs.Round.{Chosen}
-use Rattle.send_unreliable.specs.declared.SendChannelUnreliable.{SendChannelUnreliable}
 use Rattle.send_unreliable.specs.declared.Place.{Place}
 use Rattle.send_unreliable.specs.declared.Place.TheVariants as place
 use Rattle.send_unreliable.specs.declared.Selection.{Selection}
 
 -- ---- queueing
 
--- what a message's spot depends on: the settings, the usage, and how many small and sliced messages wait
-abbrev pub holding : Settings → ℕ → ℕ → ℕ → SendChannelUnreliable
-holding s usage small sliced =
-    record {
-      channel_id = 0;
-      settings = s;
-      sliced_message_id = 0;
-      memory_usage_bytes = usage;
-      count = small + sliced;
-      small = small;
-      sliced = sliced;
-      lens = [];
-    }
-
-abbrev pub place_of : Place → Spot
-place_of place.Cell = cell
-place_of place.Lane = lane
-place_of place.Dropped = dropped
-place_of (place.Refused e) = refused (number_of e)
+abbrev pub place_of : Result Place Refusal → Spot
+place_of (Ok place.Cell) = cell
+place_of (Ok place.Lane) = lane
+place_of (Ok place.Dropped) = dropped
+place_of (Err e) = refused (number_of e)
 
 -- ---- a round
 
 -- what was chosen so far, its items being the first ones of table t
-abbrev pub chosen_at : Selection → List ℕ → Chosen
+abbrev pub chosen_at : Selection → List code.Item → Chosen
 chosen_at c t = record { left = c.left; small = c.small; sliced = c.sliced; id = c.id; items = items_in t 0 c.items }
 
 abbrev pub small_one : ℕ → ℕ

@@ -1,12 +1,10 @@
 // All ends of a session, and the calls on them, each with its own part of the memory.
 ghost use Rattle.session.specs.Sound.{Sound};
-ghost use Rattle.slice_constructor.specs.Collect.{Valid};
-ghost use Rattle.session_send.specs.Sound as send;
-ghost use Rattle.session_receive.specs.Sound as receive;
 
 use answers::Call;
 use session_receive::Receivers;
 use session_send::Senders;
+use std::marker::Model;
 
 // The end that a line names: of two senders or receivers, whether it is the reliable one.
 #[derive(Clone, Copy)]
@@ -15,7 +13,6 @@ pub enum Which {
     Sc,
     Send(bool),
     Receive(bool),
-    Nothing,
 }
 
 #[derive(Clone, Copy)]
@@ -26,13 +23,37 @@ pub struct Ends {
     pub receivers: Receivers,
 }
 
-// The ends after a call, and the place after its answer.
-#[derive(Clone, Copy)]
-pub struct Told {
-    pub ends: Ends,
-    pub at: usize,
+// A contract sees them, of which `Sound` is always true.
+impl Model for Ends {
+    ghost use Rattle.session.specs.State.{State};
+
+    ghost Value = { State };
+
+    ghost use Rattle.session.specs.Sound.{Sound};
+    ghost use Rattle.session.specs.Fields.{state_of, fields_of};
+
+    ghost view = { state_of };
+
+    ghost invariant = { λ a. Sound (state_of a) };
+
+    ghost inverse = { fields_of };
 }
 
+// What is lent to the ends: the stores of small messages and of pieces, the packets of the rounds and
+// their tables, the tables of a packet that is read, and the page for the answers.
+// The buffers themselves stand in it: references in one struct could not be lent on side by side.
+#[derive(Drop)]
+pub struct Memory {
+    pub small: [u8; memory::ALL_SMALL],
+    pub lanes: [u8; memory::ALL_LANES],
+    pub out: [u8; memory::ALL_OUT],
+    pub table: [u64; memory::ALL_TABLES],
+    pub messages: [u64; memory::MESSAGES],
+    pub ranges: [u64; memory::RANGES],
+    pub page: [u8; memory::PAGE],
+}
+
+#[tactic(auto, unfolding(crate::specs::Sound::Sound))]
 pub fn start() -> Ends
     ensures { Sound result }
 {
@@ -44,226 +65,119 @@ pub fn start() -> Ends
     }
 }
 
-// Makes the call of the end that a line names.
+// Makes the call of the end that a line names, and answers the place after what it says.
 pub fn answer(
-    ends: Ends,
+    ends: &mut Ends,
     which: Which,
     c: Call,
     numbers: &[u64],
     bytes: &[u8],
-    small: &mut [u8],
-    lanes: &mut [u8],
-    out: &mut [u8],
-    table: &mut [u64],
-    messages: &mut [u64],
-    ranges: &mut [u64],
-    page: &mut [u8],
-) -> Told
-    requires { Sound ends }
-    ensures { Sound result.ends }
-{
+    m: &mut Memory,
+) -> usize {
     match which {
-        Which::Wire => wire(ends, c, numbers, bytes, out, messages, ranges, page),
-        Which::Sc => collect(ends, c, numbers, bytes, lanes, page),
-        Which::Send(reliable) => send(
-            ends, reliable, c, numbers, bytes, small, lanes, out, table, messages, ranges, page,
-        ),
-        Which::Receive(reliable) => receive(
-            ends, reliable, c, numbers, bytes, out, table, messages, ranges, small, lanes, page,
-        ),
-        Which::Nothing => Told { ends, at: c.at },
+        Which::Wire => wire(ends, c, numbers, bytes, m),
+        Which::Sc => collect(ends, c, numbers, bytes, m),
+        Which::Send(reliable) => send(ends, reliable, c, numbers, bytes, m),
+        Which::Receive(reliable) => receive(ends, reliable, c, numbers, bytes, m),
     }
 }
 
 // Calls the codec.
-fn wire(
-    ends: Ends,
-    c: Call,
-    numbers: &[u64],
-    bytes: &[u8],
-    out: &mut [u8],
-    messages: &mut [u64],
-    ranges: &mut [u64],
-    page: &mut [u8],
-) -> Told
-    requires { Sound ends }
-    ensures { Sound result.ends }
-{
-    let own = memory::bytes_span(out, memory::WIRE_OUT, memory::WIRE);
-    let a = own.start;
-    let b = own.end;
-    let lent = ends.wire;
+#[tactic(auto, unfolding(crate::specs::Sound::Sound))]
+fn wire(ends: &mut Ends, c: Call, numbers: &[u64], bytes: &[u8], m: &mut Memory) -> usize {
+    let out: &mut [u8] = &mut m.out;
+    let own = memory::span_of(out, memory::WIRE_OUT, memory::WIRE);
     let t = session_wire::call(
-        lent,
+        ends.wire,
         c.k,
         numbers,
         bytes,
-        messages,
-        ranges,
-        &mut out[a..b],
-        page,
+        &mut m.messages,
+        &mut m.ranges,
+        &mut out[own.start..own.end],
+        &mut m.page,
         c.at,
     );
-    with_wire(ends, t)
+    ends.wire = t.lent;
+    t.at
 }
 
 // Calls the slice constructor.
-fn collect(
-    ends: Ends,
-    c: Call,
-    numbers: &[u64],
-    bytes: &[u8],
-    lanes: &mut [u8],
-    page: &mut [u8],
-) -> Told
-    requires { Sound ends }
-    ensures { Sound result.ends }
-{
-    let own = memory::bytes_span(lanes, memory::SC_LANE, memory::LANE);
-    let a = own.start;
-    let b = own.end;
+#[tactic(auto, unfolding(crate::specs::Sound::Sound))]
+fn collect(ends: &mut Ends, c: Call, numbers: &[u64], bytes: &[u8], m: &mut Memory) -> usize {
+    let lanes: &mut [u8] = &mut m.lanes;
+    let own = memory::span_of(lanes, memory::SC_LANE, memory::LANE);
     let t = session_sc::call(
-        sc_of(ends),
+        ends.sc,
         c.k,
         numbers,
         bytes,
-        &mut lanes[a..b],
-        page,
+        &mut lanes[own.start..own.end],
+        &mut m.page,
         c.at,
     );
-    with_sc(ends, t)
+    ends.sc = t.end;
+    t.at
 }
 
 // Calls a sender.
+#[tactic(auto, unfolding(crate::specs::Sound::Sound))]
 fn send(
-    ends: Ends,
+    ends: &mut Ends,
     reliable: bool,
     c: Call,
     numbers: &[u64],
     bytes: &[u8],
-    small: &mut [u8],
-    lanes: &mut [u8],
-    out: &mut [u8],
-    table: &mut [u64],
-    messages: &mut [u64],
-    ranges: &mut [u64],
-    page: &mut [u8],
-) -> Told
-    requires { Sound ends }
-    ensures { Sound result.ends }
-{
+    m: &mut Memory,
+) -> usize {
     let t = session_send::call(
-        senders_of(ends),
+        ends.senders,
         reliable,
         c,
         numbers,
         bytes,
-        small,
-        lanes,
-        out,
-        table,
-        messages,
-        ranges,
-        page,
+        &mut m.small,
+        &mut m.lanes,
+        &mut m.out,
+        &mut m.table,
+        &mut m.messages,
+        &mut m.ranges,
+        &mut m.page,
     );
-    with_senders(ends, t)
+    ends.senders = t.senders;
+    t.at
 }
 
 // Calls a receiver. Packets are those of its sender's last round, and are read into the tables of the codec.
+#[tactic(auto, unfolding(crate::specs::Sound::Sound))]
 fn receive(
-    ends: Ends,
+    ends: &mut Ends,
     reliable: bool,
     c: Call,
     numbers: &[u64],
     bytes: &[u8],
-    out: &[u8],
-    table: &[u64],
-    messages: &mut [u64],
-    ranges: &mut [u64],
-    small: &mut [u8],
-    lanes: &mut [u8],
-    page: &mut [u8],
-) -> Told
-    requires { Sound ends }
-    ensures { Sound result.ends }
-{
-    let m = page::words_part(ends.wire.messages, messages);
-    let n = page::words_part(ends.wire.ranges, ranges);
+    m: &mut Memory,
+) -> usize {
+    let messages: &mut [u64] = &mut m.messages;
+    let ranges: &mut [u64] = &mut m.ranges;
+    let p = page::part(ends.wire.messages, messages);
+    let q = page::part(ends.wire.ranges, ranges);
+    let packets = session_send::packets(ends.senders, reliable);
     let t = session_receive::call(
-        receivers_of(ends),
+        ends.receivers,
         reliable,
         c,
-        session_send::packets(ends.senders, reliable),
+        packets,
         numbers,
         bytes,
-        out,
-        table,
-        &mut messages[..m],
-        &mut ranges[..n],
-        small,
-        lanes,
-        page,
+        &m.out,
+        &m.table,
+        &mut messages[..p],
+        &mut ranges[..q],
+        &mut m.small,
+        &mut m.lanes,
+        &mut m.page,
     );
-    with_receivers(ends, t)
-}
-
-// The parts of sound ends, and sound ends with another part.
-fn sc_of(ends: Ends) -> session_sc::End
-    requires { Sound ends }
-    ensures { Valid result.state }
-{
-    ends.sc
-}
-
-fn senders_of(ends: Ends) -> Senders
-    requires { Sound ends }
-    ensures { send.Sound result }
-{
-    ends.senders
-}
-
-fn receivers_of(ends: Ends) -> Receivers
-    requires { Sound ends }
-    ensures { receive.Sound result }
-{
-    ends.receivers
-}
-
-fn with_wire(mut ends: Ends, t: session_wire::Told) -> Told
-    requires { Sound ends }
-    ensures { Sound result.ends }
-{
-    let lent = t.lent;
-    ends.wire = lent;
-    Told { ends, at: t.at }
-}
-
-fn with_sc(mut ends: Ends, t: session_sc::Told) -> Told
-    requires sound { Sound ends }
-    requires valid { Valid t.end.state }
-    ensures { Sound result.ends }
-{
-    let end = t.end;
-    ends.sc = end;
-    Told { ends, at: t.at }
-}
-
-fn with_senders(mut ends: Ends, t: session_send::Told) -> Told
-    requires sound { Sound ends }
-    requires sound_2 { send.Sound t.senders }
-    ensures { Sound result.ends }
-{
-    let senders = t.senders;
-    ends.senders = senders;
-    Told { ends, at: t.at }
-}
-
-fn with_receivers(mut ends: Ends, t: session_receive::Told) -> Told
-    requires sound { Sound ends }
-    requires sound_2 { receive.Sound t.receivers }
-    ensures { Sound result.ends }
-{
-    let receivers = t.receivers;
-    ends.receivers = receivers;
-    Told { ends, at: t.at }
+    ends.receivers = t.receivers;
+    t.at
 }

@@ -1,11 +1,10 @@
 #![tactic(auto)]
 // The script program: a script of packets and calls is read from standard input, and each answer is
 // printed. docs/SCRIPT.md has the language.
-ghost use Rattle.session.specs.Sound.{Sound};
 
 use answers::Call;
-use arguments::Read;
-use ends::{Ends, Told, Which};
+use arguments::LineFault;
+use ends::{Ends, Memory, Which};
 use lines::{Line, Lines};
 use script::Word;
 
@@ -15,28 +14,29 @@ mod ends;
 const STDIN: i32 = 0;
 
 fn main() {
-    let mut input = [0; memory::INPUT];
-    let mut numbers = [0; memory::NUMBERS];
-    let mut bytes = [0; memory::BYTES];
-    let mut small = [memory::FRESH; memory::ALL_SMALL];
-    let mut lanes = [memory::FRESH; memory::ALL_LANES];
-    let mut out = [memory::FRESH; memory::ALL_OUT];
-    let mut table = [memory::FRESH_WORD; memory::ALL_TABLES];
-    let mut messages = [memory::FRESH_WORD; memory::MESSAGES];
-    let mut ranges = [memory::FRESH_WORD; memory::RANGES];
-    let mut page = [0; memory::PAGE];
-    run(
-        &mut input,
-        &mut numbers,
-        &mut bytes,
-        &mut small,
-        &mut lanes,
-        &mut out,
-        &mut table,
-        &mut messages,
-        &mut ranges,
-        &mut page,
-    );
+    let mut text = Text {
+        input: [0; memory::INPUT],
+        numbers: [0; memory::NUMBERS],
+        bytes: [0; memory::BYTES],
+    };
+    let mut memory = Memory {
+        small: [memory::FRESH; memory::ALL_SMALL],
+        lanes: [memory::FRESH; memory::ALL_LANES],
+        out: [memory::FRESH; memory::ALL_OUT],
+        table: [memory::FRESH_WORD; memory::ALL_TABLES],
+        messages: [memory::FRESH_WORD; memory::MESSAGES],
+        ranges: [memory::FRESH_WORD; memory::RANGES],
+        page: [0; memory::PAGE],
+    };
+    run(&mut text, &mut memory);
+}
+
+// What is read of a script, and a line's numbers and bytes.
+#[derive(Drop)]
+struct Text {
+    input: [u8; memory::INPUT],
+    numbers: [u64; memory::NUMBERS],
+    bytes: [u8; memory::BYTES],
 }
 
 // Where a script and its answers stand: the lines that are left, how many there were, the place after
@@ -49,19 +49,11 @@ struct Script {
     over: bool,
 }
 
-// The k-th call of an end, with so many numbers and bytes.
+// A call of an end, with so many numbers and bytes.
 #[derive(Clone, Copy)]
 struct Request {
     which: Which,
-    k: usize,
-    numbers: usize,
-    bytes: usize,
-}
-
-#[derive(Clone, Copy)]
-struct Asked {
-    script: Script,
-    request: Request,
+    call: arguments::Call,
 }
 
 // How far a script is answered.
@@ -72,34 +64,17 @@ struct Session {
 }
 
 // Answers one line after the other until the input ends.
-fn run(
-    input: &mut [u8],
-    numbers: &mut [u64],
-    bytes: &mut [u8],
-    small: &mut [u8],
-    lanes: &mut [u8],
-    out: &mut [u8],
-    table: &mut [u64],
-    messages: &mut [u64],
-    ranges: &mut [u64],
-    page: &mut [u8],
-) {
+fn run(text: &mut Text, memory: &mut Memory) {
     let mut s = start();
-    let mut left = u64::MAX;
-    while 0 < left {
-        s = turn(
-            s, input, numbers, bytes, small, lanes, out, table, messages, ranges, page,
-        );
+    for _ in 0..u64::MAX {
+        turn(&mut s, text, memory);
         if s.script.over {
             return;
         }
-        left -= 1;
     }
 }
 
-fn start() -> Session
-    ensures { Sound result.ends }
-{
+fn start() -> Session {
     Session {
         ends: ends::start(),
         script: Script {
@@ -112,206 +87,105 @@ fn start() -> Session
 }
 
 // Answers the next line.
-fn turn(
-    s: Session,
-    input: &mut [u8],
-    numbers: &mut [u64],
-    bytes: &mut [u8],
-    small: &mut [u8],
-    lanes: &mut [u8],
-    out: &mut [u8],
-    table: &mut [u64],
-    messages: &mut [u64],
-    ranges: &mut [u64],
-    page: &mut [u8],
-) -> Session
-    requires { Sound s.ends }
-    ensures { Sound result.ends }
-{
-    let ends = s.ends;
-    let script = s.script;
-    let asked = next(script, input, numbers, bytes, page);
-    answer(
-        ends, asked, numbers, bytes, small, lanes, out, table, messages, ranges, page,
-    )
+fn turn(s: &mut Session, text: &mut Text, memory: &mut Memory) {
+    if let Some(request) = next(&mut s.script, text, &mut memory.page) {
+        answer(s, request, text, memory);
+    }
 }
 
 // Makes the call that a line asks for.
-fn answer(
-    ends: Ends,
-    asked: Asked,
-    numbers: &[u64],
-    bytes: &[u8],
-    small: &mut [u8],
-    lanes: &mut [u8],
-    out: &mut [u8],
-    table: &mut [u64],
-    messages: &mut [u64],
-    ranges: &mut [u64],
-    page: &mut [u8],
-) -> Session
-    requires { Sound ends }
-    ensures { Sound result.ends }
-{
-    let script = asked.script;
-    let request = asked.request;
-    let which = request.which;
-    let c = page::words_part(request.numbers, numbers);
-    let b = page::part(request.bytes, bytes);
+fn answer(s: &mut Session, request: Request, text: &Text, memory: &mut Memory) {
+    let c = page::part(request.call.numbers, &text.numbers);
+    let b = page::part(request.call.bytes, &text.bytes);
     let call = Call {
-        k: request.k,
-        n: script.count,
-        at: script.at,
+        k: request.call.call,
+        n: s.script.count,
+        at: s.script.at,
     };
-    let told = ends::answer(
-        ends,
-        which,
+    s.script.at = ends::answer(
+        &mut s.ends,
+        request.which,
         call,
-        &numbers[..c],
-        &bytes[..b],
-        small,
-        lanes,
-        out,
-        table,
-        messages,
-        ranges,
-        page,
+        &text.numbers[..c],
+        &text.bytes[..b],
+        memory,
     );
-    after(told, script)
-}
-
-// A session after an answer.
-fn after(told: Told, script: Script) -> Session
-    requires { Sound told.ends }
-    ensures { Sound result.ends }
-{
-    let ends = told.ends;
-    Session {
-        ends,
-        script: answered(script, told.at),
-    }
-}
-
-// The same script, with the answers going on at a place.
-fn answered(mut s: Script, at: usize) -> Script {
-    s.at = at;
-    s
 }
 
 // Takes the next line apart, or reads more of the input. At its end the page is written out.
-fn next(
-    mut s: Script,
-    input: &mut [u8],
+fn next(s: &mut Script, text: &mut Text, page: &mut [u8]) -> Option<Request> {
+    let step = s.lines.next(&text.input);
+    s.lines = step.state;
+    match step.answer {
+        Line::End => {
+            s.at = page::flush(page, s.at);
+            s.over = true;
+            None
+        }
+        Line::Unread => {
+            s.lines = step.state.refill(STDIN, &mut text.input);
+            None
+        }
+        Line::TooLong => {
+            s.count = s.count.saturating_add(1);
+            s.at = page::line(page, s.at, b"#: bad line: too long\n", &[s.count]);
+            None
+        }
+        Line::At(start, end) => {
+            s.count = s.count.saturating_add(1);
+            let letters = script::letters(&text.input, Word { start, end });
+            line(s, letters, &mut text.numbers, &mut text.bytes, page)
+        }
+    }
+}
+
+// Takes a line apart. One with no word asks for nothing, and what is wrong with a line is said.
+fn line(
+    s: &mut Script,
+    text: &[u8],
     numbers: &mut [u64],
     bytes: &mut [u8],
     page: &mut [u8],
-) -> Asked {
-    let before = s.lines;
-    let step = before.next(input);
-    let found = step.line;
-    let lines = step.lines;
-    s.lines = lines;
-    match found {
-        Line::End => over(s, page),
-        Line::Unread => {
-            s.lines = lines.refill(STDIN, input);
-            nothing(s)
-        }
-        Line::TooLong => too_long(counted(s), page),
-        Line::At(start, end) => {
-            let text = script::letters(input, Word { start, end });
-            line(counted(s), text, numbers, bytes, page)
-        }
-    }
-}
-
-// One line more.
-fn counted(mut s: Script) -> Script {
-    if s.count < u64::MAX {
-        s.count += 1;
-    }
-    s
-}
-
-// Nothing is asked for.
-fn nothing(script: Script) -> Asked {
-    Asked {
-        script,
-        request: Request {
-            which: Which::Nothing,
-            k: 0,
-            numbers: 0,
-            bytes: 0,
-        },
-    }
-}
-
-fn over(mut s: Script, page: &[u8]) -> Asked {
-    page::flush(page, s.at);
-    s.over = true;
-    nothing(s)
-}
-
-fn too_long(s: Script, page: &mut [u8]) -> Asked {
-    let at = page::line(page, s.at, b"#: bad line: too long\n", &[s.count]);
-    nothing(answered(s, at))
-}
-
-// Takes a line apart. One with no word asks for nothing.
-fn line(s: Script, text: &[u8], numbers: &mut [u64], bytes: &mut [u8], page: &mut [u8]) -> Asked {
+) -> Option<Request> {
     let w = script::next_word(text, 0);
     if w.end <= w.start {
-        return nothing(s);
+        return None;
     }
-    let at = page::line(page, s.at, b"#: ", &[s.count]);
-    let which = which_of(script::letters(text, w));
-    let r = read(which, text, w.end, numbers, bytes);
-    understood(s, at, which, r, page)
-}
-
-fn understood(s: Script, at: usize, which: Which, r: Read, page: &mut [u8]) -> Asked {
-    let Read::Call(k, numbers, bytes) = r else {
-        return nothing(answered(s, arguments::bad(page, at, r)));
-    };
-    Asked {
-        script: answered(s, at),
-        request: Request {
-            which,
-            k,
-            numbers,
-            bytes,
-        },
+    s.at = page::line(page, s.at, b"#: ", &[s.count]);
+    match understood(text, w, numbers, bytes) {
+        Ok(request) => Some(request),
+        Err(e) => {
+            s.at = arguments::bad(page, s.at, Err(e));
+            None
+        }
     }
 }
 
-fn which_of(name: &[u8]) -> Which {
-    if script::is(name, b"wire") {
-        return Which::Wire;
-    }
-    if script::is(name, b"sc") {
-        return Which::Sc;
-    }
-    if script::is(name, b"sr") {
-        return Which::Send(true);
-    }
-    if script::is(name, b"su") {
-        return Which::Send(false);
-    }
-    if script::is(name, b"rr") {
-        return Which::Receive(true);
-    }
-    if script::is(name, b"ru") {
-        return Which::Receive(false);
-    }
-    Which::Nothing
+// The call that a line asks for, behind the word that names the end.
+fn understood(
+    text: &[u8],
+    w: Word,
+    numbers: &mut [u64],
+    bytes: &mut [u8],
+) -> Result<Request, LineFault> {
+    let which = which_of(script::letters(text, w)).ok_or(LineFault::NoEnd)?;
+    let call = match which {
+        Which::Wire => session_wire::read(text, w.end, numbers, bytes),
+        Which::Sc => session_sc::read(text, w.end, numbers, bytes),
+        Which::Send(reliable) => session_send::read(reliable, text, w.end, numbers, bytes),
+        Which::Receive(reliable) => session_receive::read(reliable, text, w.end, numbers, bytes),
+    }?;
+    Ok(Request { which, call })
 }
 
-fn read(which: Which, s: &[u8], from: usize, numbers: &mut [u64], bytes: &mut [u8]) -> Read {
-    match which {
-        Which::Wire => session_wire::read(s, from, numbers, bytes),
-        Which::Sc => session_sc::read(s, from, numbers, bytes),
-        Which::Send(reliable) => session_send::read(reliable, s, from, numbers, bytes),
-        Which::Receive(reliable) => session_receive::read(reliable, s, from, numbers, bytes),
-        Which::Nothing => Read::NoEnd,
+fn which_of(name: &[u8]) -> Option<Which> {
+    match name {
+        b"wire" => Some(Which::Wire),
+        b"sc" => Some(Which::Sc),
+        b"sr" => Some(Which::Send(true)),
+        b"su" => Some(Which::Send(false)),
+        b"rr" => Some(Which::Receive(true)),
+        b"ru" => Some(Which::Receive(false)),
+        _ => None,
     }
 }

@@ -1,2 +1,4 @@
+pub mod State
+pub mod Fields
 pub mod Calls
 pub mod Sound

@@ -1,20 +1,19 @@
 #![tactic(auto)]
 // Calls on the two receivers, the ordered reliable one and the unreliable one.
-ghost use Rattle.std.specs.Prelude.{◌≡◌, ◌≤◌};
+ghost use Rattle.std.specs.Prelude.{◌≡◌};
 ghost use Rattle.arguments.specs.Arguments.{leaves, taken_apart_of};
-ghost use Rattle.receive_reliable.specs.Receive as rrv;
-ghost use Rattle.receive_unreliable.specs.Receive as ruv;
 ghost use Rattle.session_receive.specs.Calls.{calls_of};
 ghost use Rattle.session_receive.specs.Sound.{Sound, Whole};
 
 use answers::lent::Stores;
 use answers::{Call, lent, packets};
 use arguments::Read;
-use channel::Setup;
-use packet::{Decoded, Packet};
+use channel::Store;
+use packet::Packet;
 use packet_slice::Slice;
 use receive_reliable::ReceiveChannelReliable;
-use receive_unreliable::{Discard, ReceiveChannelUnreliable};
+use receive_unreliable::ReceiveChannelUnreliable;
+use std::marker::Model;
 use words::{MessageId, Refusal, SliceIndex};
 
 // Both receivers, and how much of the stores of each is lent.
@@ -26,6 +25,22 @@ pub struct Receivers {
     pub unreliable_lent: Stores,
 }
 
+// A contract sees their fields, of which `Sound` is always true.
+impl Model for Receivers {
+    ghost use Rattle.session_receive.specs.State.{State};
+
+    ghost Value = { State };
+
+    ghost use Rattle.session_receive.specs.Sound.{Sound};
+    ghost use Rattle.session_receive.specs.Fields.{state_of, fields_of};
+
+    ghost view = { state_of };
+
+    ghost invariant = { λ a. Sound (state_of a) };
+
+    ghost inverse = { fields_of };
+}
+
 // The receivers after a call, and the place after the answer.
 #[derive(Clone, Copy)]
 pub struct Told {
@@ -33,18 +48,17 @@ pub struct Told {
     pub at: usize,
 }
 
-// A call on its way: the receivers, which of them it is for, and the call; then the place after its answer.
+// A call on its way: which receiver it is for, the number of the call, the line, and the place for its
+// answer. A line that is read tells a call by its place in the list of `read`.
 #[derive(Clone, Copy)]
 struct Turn {
-    receivers: Receivers,
     reliable: bool,
     k: usize,
     n: u64,
     at: usize,
 }
 
-// What a call answers. A message is in the small store or in the lanes, at a place, and so long; one of
-// the reliable receiver has an id before that.
+// What a call answers, unless it is refused.
 #[derive(Clone, Copy)]
 enum Answer {
     Ready,
@@ -53,41 +67,65 @@ enum Answer {
     Dropped,
     Discarded(usize),
     Nothing,
-    Ordered(u64, bool, usize, usize),
-    Message(bool, usize, usize),
-    Lent(usize, usize),
+    Ordered(receive_reliable::Message),
+    Message(receive_unreliable::Message),
+    Lent(Stores),
     Digest(u64, u64),
     Usage,
-    Refused(Refusal),
 }
 
-// A turn after its call, and what that answered.
-#[derive(Clone, Copy)]
-struct Answered {
-    turn: Turn,
-    answer: Answer,
+impl From<receive_reliable::Arrival> for Answer {
+    fn from(a: receive_reliable::Arrival) -> Answer {
+        match a {
+            receive_reliable::Arrival::Taken => Answer::Taken,
+            receive_reliable::Arrival::Ignored => Answer::Ignored,
+        }
+    }
 }
 
-// What a packet holds for a receiver: so many messages, or a piece; it may be for another one, or no packet.
+impl From<receive_unreliable::Arrival> for Answer {
+    fn from(a: receive_unreliable::Arrival) -> Answer {
+        match a {
+            receive_unreliable::Arrival::Taken => Answer::Taken,
+            receive_unreliable::Arrival::Dropped => Answer::Dropped,
+        }
+    }
+}
+
+impl From<Option<receive_reliable::Message>> for Answer {
+    fn from(waiting: Option<receive_reliable::Message>) -> Answer {
+        match waiting {
+            Some(m) => Answer::Ordered(m),
+            None => Answer::Nothing,
+        }
+    }
+}
+
+impl From<Option<receive_unreliable::Message>> for Answer {
+    fn from(waiting: Option<receive_unreliable::Message>) -> Answer {
+        match waiting {
+            Some(m) => Answer::Message(m),
+            None => Answer::Nothing,
+        }
+    }
+}
+
+// What a packet holds for a receiver: so many messages, or a piece; or it is for another end.
 #[derive(Clone, Copy)]
 enum Contents {
     Messages(usize),
     Piece(Slice),
     Other,
-    Nothing,
 }
 
 // The receivers at first.
+#[tactic(auto, unfolding(crate::specs::Sound::Sound))]
 pub fn start() -> Receivers
     ensures { Sound result × Whole result.reliable_lent × Whole result.unreliable_lent }
 {
-    let reliable = ReceiveChannelReliable::new(lent::whole());
-    let unreliable = ReceiveChannelUnreliable::new(lent::whole());
-    let a = reliable.state;
-    let b = unreliable.state;
     Receivers {
-        reliable: a,
-        unreliable: b,
+        reliable: ReceiveChannelReliable::new(lent::whole()).state,
+        unreliable: ReceiveChannelUnreliable::new(lent::whole()).state,
         reliable_lent: whole(),
         unreliable_lent: whole(),
     }
@@ -103,7 +141,7 @@ fn whole() -> Stores
     }
 }
 
-// The calls, in the order of `called`. Only the unreliable receiver discards.
+// The calls, in the order of the numbers below. Only the unreliable receiver discards.
 pub fn read(reliable: bool, s: &[u8], at: usize, numbers: &mut [u64], bytes: &mut [u8]) -> Read
     ensures { leaves result numbers.new bytes.new ≡ taken_apart_of (calls_of reliable) s.now at numbers.old bytes.old }
 {
@@ -125,6 +163,8 @@ pub fn read(reliable: bool, s: &[u8], at: usize, numbers: &mut [u64], bytes: &mu
     )
 }
 
+const NEW: usize = 0;
+
 const MESSAGE: usize = 1;
 
 const SLICE: usize = 2;
@@ -133,16 +173,22 @@ const LOOK: usize = 3;
 
 const TAKE: usize = 4;
 
+const LEND: usize = 5;
+
 const DIGEST: usize = 6;
+
+const USAGE: usize = 7;
 
 const PACKET: usize = 8;
 
 const DELIVER: usize = 9;
 
+const DISCARD: usize = 10;
+
 // Makes a call and answers it. The sender of the same kind left so many packets in `out`, by their table;
 // one of them is delivered as a packet with the numbers that are left.
 pub fn call(
-    r: Receivers,
+    mut r: Receivers,
     reliable: bool,
     c: Call,
     packets: usize,
@@ -156,63 +202,54 @@ pub fn call(
     lanes: &mut [u8],
     page: &mut [u8],
 ) -> Told
-    requires { Sound r }
     ensures { Sound result.receivers }
 {
-    let mut t = Turn {
-        receivers: r,
+    let t = Turn {
         reliable,
         k: c.k,
         n: c.n,
         at: c.at,
     };
-    if c.k == DELIVER {
-        let i = page::size(numbers, 0);
-        if packets <= i {
-            t.at = page::text(page, c.at, b"bad line: no such packet\n");
-            return ended(t);
-        }
-        t.k = PACKET;
-        let s = kept(reliable, i, out, table);
-        let left = page::words_from(numbers, 1);
-        return ended(made(t, left, s, messages, ranges, small, lanes, page));
+    if c.k != DELIVER {
+        let at = made(
+            &mut r, t, numbers, bytes, messages, ranges, small, lanes, page,
+        );
+        return after(&r, at);
     }
-    ended(made(t, numbers, bytes, messages, ranges, small, lanes, page))
+    let i = page::size(numbers, 0);
+    if packets <= i {
+        let at = page::text(page, c.at, b"bad line: no such packet\n");
+        return after(&r, at);
+    }
+    let t = Turn { k: PACKET, ..t };
+    let s = kept(reliable, i, out, table);
+    let left = page::words_from(numbers, 1);
+    let at = made(&mut r, t, left, s, messages, ranges, small, lanes, page);
+    after(&r, at)
 }
 
-fn ended(t: Turn) -> Told
-    requires { Sound t.receivers }
+// The receivers are looked into here, so that the contract says what is always true of them.
+fn after(r: &Receivers, at: usize) -> Told
     ensures { Sound result.receivers }
 {
-    let receivers = t.receivers;
-    Told {
-        receivers,
-        at: t.at,
-    }
+    let _ = &r.reliable_lent;
+    Told { receivers: *r, at }
 }
 
 // The i-th packet of the last round of the sender of the same kind.
 fn kept<'a>(reliable: bool, i: usize, out: &'a [u8], table: &[u64]) -> &'a [u8] {
-    let o = memory::bytes_span(out, one(reliable, 0, memory::SU_OUT), memory::OUT);
-    let a = o.start;
-    let b = o.end;
-    let w = memory::words_span(table, one(reliable, 0, memory::SU_TABLE), memory::TABLE);
-    let f = w.start;
-    let g = w.end;
-    packets::kept(&out[a..b], &table[f..g], i)
+    let o = memory::span_of(out, one(reliable, 0, memory::SU_OUT), memory::OUT);
+    let w = memory::span_of(table, one(reliable, 0, memory::SU_TABLE), memory::TABLE);
+    packets::kept(&out[o.start..o.end], &table[w.start..w.end], i)
 }
 
 // The place of the reliable end, or of the other.
 fn one(reliable: bool, a: usize, b: usize) -> usize {
-    if reliable {
-        return a;
-    }
-    b
+    if reliable { a } else { b }
 }
 
 // How much of the stores a call sees: what is lent; a take and a digest see all.
-fn seen(t: Turn) -> Stores {
-    let r = t.receivers;
+fn seen(r: &Receivers, t: Turn) -> Stores {
     if t.k == TAKE || t.k == DIGEST {
         return whole();
     }
@@ -222,8 +259,10 @@ fn seen(t: Turn) -> Stores {
     r.unreliable_lent
 }
 
-// Answers a call with what it sees of the stores.
+// Answers a call with what it sees of the stores. These and the page are lent one by one, here and below:
+// of a struct of them behind a reference, the check has no rule for two fields lent to a call at once.
 fn made(
+    r: &mut Receivers,
     t: Turn,
     numbers: &[u64],
     bytes: &[u8],
@@ -232,314 +271,208 @@ fn made(
     small: &mut [u8],
     lanes: &mut [u8],
     page: &mut [u8],
-) -> Turn
-    requires { Sound t.receivers }
-    ensures { Sound result.receivers }
-{
-    let n = seen(t);
-    let from = one(t.reliable, memory::RR_SMALL, memory::RU_SMALL);
-    let s = memory::bytes_span(small, from, n.small);
-    let a = s.start;
-    let b = s.end;
-    let from = one(t.reliable, memory::RR_LANES, memory::RU_LANES);
-    let l = memory::bytes_span(lanes, from, n.lanes);
-    let f = l.start;
-    let g = l.end;
-    let small = &mut small[a..b];
-    let lanes = &mut lanes[f..g];
+) -> usize {
+    let n = seen(r, t);
+    let s = memory::span_of(
+        small,
+        one(t.reliable, memory::RR_SMALL, memory::RU_SMALL),
+        n.small,
+    );
+    let l = memory::span_of(
+        lanes,
+        one(t.reliable, memory::RR_LANES, memory::RU_LANES),
+        n.lanes,
+    );
+    let small = &mut small[s.start..s.end];
+    let lanes = &mut lanes[l.start..l.end];
     if t.k == PACKET {
         let time = page::word(numbers, 0);
-        return packet(t, time, bytes, messages, ranges, small, lanes, page);
+        return packet(r, t, time, bytes, messages, ranges, small, lanes, page);
     }
-    plain(t, numbers, bytes, small, lanes, page)
+    plain(r, t, numbers, bytes, small, lanes, page)
 }
 
 // Answers a call that hands no packet over. The message that it shows or hands out is the one that waited.
 fn plain(
+    r: &mut Receivers,
     t: Turn,
     numbers: &[u64],
     bytes: &[u8],
     small: &mut [u8],
     lanes: &mut [u8],
     page: &mut [u8],
-) -> Turn
-    requires { Sound t.receivers }
-    ensures { Sound result.receivers }
-{
-    let d = called(t, numbers, bytes, small, lanes);
-    let answer = d.answer;
-    let s = waiting(t, small, lanes);
+) -> usize {
+    let before = *r;
+    let answer = called(r, t, numbers, bytes, small, lanes);
+    let s = waiting(before, t.reliable, small, lanes);
     let a = say_answer(page, t.at, answer, s);
-    used(d.turn, page, a)
+    used(r, t.reliable, page, a)
 }
 
 // Makes a call, and says nothing yet.
-fn called(t: Turn, numbers: &[u64], bytes: &[u8], small: &mut [u8], lanes: &mut [u8]) -> Answered
-    requires { Sound t.receivers }
-    ensures { Sound result.turn.receivers }
-{
-    let k = t.k;
-    match k {
-        0 => new(t, numbers),
-        5 => lend(t, numbers),
-        DIGEST => {
-            let a = say::digest_bytes(small);
-            let b = say::digest_bytes(lanes);
-            same(t, Answer::Digest(a, b))
-        }
-        7 => same(t, Answer::Usage),
-        10 => discard(t, page::word(numbers, 0)),
-        _ => {
+fn called(
+    r: &mut Receivers,
+    t: Turn,
+    numbers: &[u64],
+    bytes: &[u8],
+    small: &mut [u8],
+    lanes: &mut [u8],
+) -> Result<Answer, Refusal> {
+    match t.k {
+        NEW => new(r, t.reliable, numbers),
+        LEND => Ok(lend(r, t.reliable, numbers)),
+        DIGEST => Ok(Answer::Digest(say::digest_bytes(small), say::digest_bytes(lanes))),
+        USAGE => Ok(Answer::Usage),
+        DISCARD => discard(r, page::word(numbers, 0)),
+        k => {
             if t.reliable {
-                return ordered(t, numbers, bytes, small, lanes);
+                return ordered(r, k, numbers, bytes, small, lanes);
             }
-            unordered(t, numbers, bytes, small, lanes)
+            unordered(r, k, numbers, bytes, small, lanes)
         }
     }
 }
 
 // Hands a message or a piece to the reliable receiver, or shows or takes the one that waits.
-fn ordered(t: Turn, numbers: &[u64], bytes: &[u8], small: &mut [u8], lanes: &mut [u8]) -> Answered
-    requires { Sound t.receivers }
-    ensures { Sound result.turn.receivers }
-{
-    let state = reliable_of(t);
+#[tactic(auto, unfolding(crate::specs::Sound::Sound))]
+fn ordered(
+    r: &mut Receivers,
+    k: usize,
+    numbers: &[u64],
+    bytes: &[u8],
+    small: &mut [u8],
+    lanes: &mut [u8],
+) -> Result<Answer, Refusal> {
     let id = MessageId(page::word(numbers, 0));
-    let k = t.k;
     match k {
         MESSAGE => {
-            let a = state.process_message(id, bytes, small, lanes);
-            let answer = a.answer;
-            with_reliable(t, a.state, ordered_arrival(answer))
+            let a = r.reliable.process_message(id, bytes, small, lanes);
+            r.reliable = a.state;
+            Ok(Answer::from(a.answer?))
         }
         SLICE => {
             let index = SliceIndex(page::word(numbers, 1));
             let num_slices = page::word(numbers, 2);
-            let a = state.process_slice(id, index, num_slices, bytes, small, lanes);
-            let answer = a.answer;
-            with_reliable(t, a.state, ordered_arrival(answer))
+            let a = r
+                .reliable
+                .process_slice(id, index, num_slices, bytes, small, lanes);
+            r.reliable = a.state;
+            Ok(Answer::from(a.answer?))
         }
-        LOOK => same(t, ordered_look(state.look(small, lanes))),
+        LOOK => Ok(Answer::from(r.reliable.look(small, lanes)?)),
         _ => {
-            let a = state.receive_message();
-            let answer = a.answer;
-            with_reliable(t, a.state, ordered_look(answer))
+            let a = r.reliable.receive_message();
+            r.reliable = a.state;
+            Ok(Answer::from(a.answer))
         }
     }
 }
 
 // The same with the unreliable one. Its messages have no id, and its pieces a time.
-fn unordered(t: Turn, numbers: &[u64], bytes: &[u8], small: &mut [u8], lanes: &mut [u8]) -> Answered
-    requires { Sound t.receivers }
-    ensures { Sound result.turn.receivers }
-{
-    let state = unreliable_of(t);
-    let k = t.k;
+#[tactic(auto, unfolding(crate::specs::Sound::Sound))]
+fn unordered(
+    r: &mut Receivers,
+    k: usize,
+    numbers: &[u64],
+    bytes: &[u8],
+    small: &mut [u8],
+    lanes: &mut [u8],
+) -> Result<Answer, Refusal> {
     match k {
         MESSAGE => {
-            let a = state.process_message(bytes, small, lanes);
-            let answer = a.answer;
-            with_unreliable(t, a.state, arrival(answer))
+            let a = r.unreliable.process_message(bytes, small, lanes);
+            r.unreliable = a.state;
+            Ok(Answer::from(a.answer?))
         }
         SLICE => {
             let id = MessageId(page::word(numbers, 0));
             let index = SliceIndex(page::word(numbers, 1));
             let num_slices = page::word(numbers, 2);
             let time = page::word(numbers, 3);
-            let a = state.process_slice(id, index, num_slices, bytes, time, small, lanes);
-            let answer = a.answer;
-            with_unreliable(t, a.state, arrival(answer))
+            let a = r
+                .unreliable
+                .process_slice(id, index, num_slices, bytes, time, small, lanes);
+            r.unreliable = a.state;
+            Ok(Answer::from(a.answer?))
         }
-        LOOK => same(t, next_look(state.look(small, lanes))),
+        LOOK => Ok(Answer::from(r.unreliable.look(small, lanes)?)),
         _ => {
-            let a = state.receive_message();
-            let answer = a.answer;
-            with_unreliable(t, a.state, next_look(answer))
+            let a = r.unreliable.receive_message();
+            r.unreliable = a.state;
+            Ok(Answer::from(a.answer))
         }
     }
-}
-
-fn ordered_arrival(a: receive_reliable::Arrival) -> Answer {
-    match a {
-        receive_reliable::Arrival::Taken => Answer::Taken,
-        receive_reliable::Arrival::Ignored => Answer::Ignored,
-        receive_reliable::Arrival::Refused(e) => Answer::Refused(e),
-    }
-}
-
-fn arrival(a: receive_unreliable::Arrival) -> Answer {
-    match a {
-        receive_unreliable::Arrival::Taken => Answer::Taken,
-        receive_unreliable::Arrival::Dropped => Answer::Dropped,
-        receive_unreliable::Arrival::Refused(e) => Answer::Refused(e),
-    }
-}
-
-fn ordered_look(l: receive_reliable::Look) -> Answer {
-    match l {
-        receive_reliable::Look::Nothing => Answer::Nothing,
-        receive_reliable::Look::Refused(e) => Answer::Refused(e),
-        receive_reliable::Look::Message(id, store, place, len) => match store {
-            receive_reliable::Store::Small => Answer::Ordered(id.0, true, place, len),
-            receive_reliable::Store::Lanes => Answer::Ordered(id.0, false, place, len),
-        },
-    }
-}
-
-fn next_look(l: receive_unreliable::Look) -> Answer {
-    match l {
-        receive_unreliable::Look::Nothing => Answer::Nothing,
-        receive_unreliable::Look::Refused(e) => Answer::Refused(e),
-        receive_unreliable::Look::Message(store, place, len) => match store {
-            receive_unreliable::Store::Small => Answer::Message(true, place, len),
-            receive_unreliable::Store::Lanes => Answer::Message(false, place, len),
-        },
-    }
-}
-
-// The states of sound receivers.
-fn reliable_of(t: Turn) -> ReceiveChannelReliable
-    requires { Sound t.receivers }
-    ensures { rrv.Valid result }
-{
-    let receivers = t.receivers;
-    receivers.reliable
-}
-
-fn unreliable_of(t: Turn) -> ReceiveChannelUnreliable
-    requires { Sound t.receivers }
-    ensures { ruv.Valid result }
-{
-    let receivers = t.receivers;
-    receivers.unreliable
-}
-
-// The turn with its receivers as they were, or with another state.
-fn same(turn: Turn, answer: Answer) -> Answered
-    requires { Sound turn.receivers }
-    ensures { Sound result.turn.receivers }
-{
-    Answered { turn, answer }
-}
-
-fn with_reliable(mut turn: Turn, state: ReceiveChannelReliable, answer: Answer) -> Answered
-    requires sound { Sound turn.receivers }
-    requires valid { rrv.Valid state }
-    ensures { Sound result.turn.receivers }
-{
-    let mut receivers = turn.receivers;
-    receivers.reliable = state;
-    turn.receivers = receivers;
-    Answered { turn, answer }
-}
-
-fn with_unreliable(mut turn: Turn, state: ReceiveChannelUnreliable, answer: Answer) -> Answered
-    requires sound { Sound turn.receivers }
-    requires valid { ruv.Valid state }
-    ensures { Sound result.turn.receivers }
-{
-    let mut receivers = turn.receivers;
-    receivers.unreliable = state;
-    turn.receivers = receivers;
-    Answered { turn, answer }
 }
 
 // A refused set-up leaves the receiver as it was.
-fn new(t: Turn, numbers: &[u64]) -> Answered
-    requires { Sound t.receivers }
-    ensures { Sound result.turn.receivers }
-{
+#[tactic(auto, unfolding(crate::specs::Sound::Sound))]
+fn new(r: &mut Receivers, reliable: bool, numbers: &[u64]) -> Result<Answer, Refusal> {
     let settings = lent::settings(numbers, 0);
-    if t.reliable {
+    if reliable {
         let made = ReceiveChannelReliable::new(settings);
-        let setup = made.answer;
-        return match setup {
-            Setup::Ready => with_reliable(t, made.state, Answer::Ready),
-            Setup::Refused(e) => same(t, Answer::Refused(e)),
-        };
+        made.answer?;
+        r.reliable = made.state;
+        return Ok(Answer::Ready);
     }
     let made = ReceiveChannelUnreliable::new(settings);
-    let setup = made.answer;
-    match setup {
-        Setup::Ready => with_unreliable(t, made.state, Answer::Ready),
-        Setup::Refused(e) => same(t, Answer::Refused(e)),
-    }
+    made.answer?;
+    r.unreliable = made.state;
+    Ok(Answer::Ready)
 }
 
-fn discard(t: Turn, current_time: u64) -> Answered
-    requires { Sound t.receivers }
-    ensures { Sound result.turn.receivers }
-{
-    let state = unreliable_of(t);
-    let d = state.discard_incomplete_old_slices(current_time);
-    let answer = d.answer;
-    match answer {
-        Discard::Discarded(n) => with_unreliable(t, d.state, Answer::Discarded(n)),
-        Discard::Refused(e) => with_unreliable(t, d.state, Answer::Refused(e)),
-    }
+#[tactic(auto, unfolding(crate::specs::Sound::Sound))]
+fn discard(r: &mut Receivers, current_time: u64) -> Result<Answer, Refusal> {
+    let d = r.unreliable.discard_incomplete_old_slices(current_time);
+    r.unreliable = d.state;
+    Ok(Answer::Discarded(d.answer?))
 }
 
-fn lend(mut t: Turn, numbers: &[u64]) -> Answered
-    requires { Sound t.receivers }
-    ensures { Sound result.turn.receivers }
-{
-    let small = at_most(memory::SMALL, page::size(numbers, 0));
-    let lanes = at_most(memory::LANES, page::size(numbers, 1));
-    let lent = Stores { small, lanes };
-    let mut r = t.receivers;
-    if t.reliable {
+#[tactic(auto, unfolding(crate::specs::Sound::Sound))]
+fn lend(r: &mut Receivers, reliable: bool, numbers: &[u64]) -> Answer {
+    let lent = Stores {
+        small: page::size(numbers, 0).min(memory::SMALL),
+        lanes: page::size(numbers, 1).min(memory::LANES),
+    };
+    if reliable {
         r.reliable_lent = lent;
-        t.receivers = r;
-        return same(t, Answer::Lent(small, lanes));
+    } else {
+        r.unreliable_lent = lent;
     }
-    r.unreliable_lent = lent;
-    t.receivers = r;
-    same(t, Answer::Lent(small, lanes))
-}
-
-fn at_most(most: usize, n: usize) -> usize
-    ensures { result ≤ most }
-{
-    if n < most {
-        return n;
-    }
-    most
+    Answer::Lent(lent)
 }
 
 // The bytes of the message that waits.
-fn waiting<'a>(t: Turn, small: &'a [u8], lanes: &'a [u8]) -> &'a [u8]
-    requires { Sound t.receivers }
-{
-    if t.reliable {
-        let state = reliable_of(t);
-        return state.message(small, lanes);
+fn waiting<'a>(r: Receivers, reliable: bool, small: &'a [u8], lanes: &'a [u8]) -> &'a [u8] {
+    if reliable {
+        return r.reliable.message(small, lanes);
     }
-    let state = unreliable_of(t);
-    state.message(small, lanes)
+    r.unreliable.message(small, lanes)
 }
 
 // Says the memory in use.
-fn used(mut t: Turn, page: &mut [u8], at: usize) -> Turn
-    requires { Sound t.receivers }
-    ensures { Sound result.receivers }
-{
-    t.at = page::line(page, at, b"usage #\n", &[usage(t) as u64]);
-    t
+fn used(r: &Receivers, reliable: bool, page: &mut [u8], at: usize) -> usize {
+    page::line(page, at, b"usage #\n", &[usage(r, reliable) as u64])
 }
 
-fn usage(t: Turn) -> usize
-    requires { Sound t.receivers }
-{
-    if t.reliable {
-        let state = reliable_of(t);
-        return state.memory_usage_bytes();
+fn usage(r: &Receivers, reliable: bool) -> usize {
+    if reliable {
+        return r.reliable.memory_usage_bytes();
     }
-    let state = unreliable_of(t);
-    state.memory_usage_bytes()
+    r.unreliable.memory_usage_bytes()
 }
 
 // Says an answer before the memory in use.
-fn say_answer(page: &mut [u8], at: usize, a: Answer, s: &[u8]) -> usize {
+fn say_answer(page: &mut [u8], at: usize, a: Result<Answer, Refusal>, s: &[u8]) -> usize {
+    match a {
+        Ok(a) => say(page, at, a, s),
+        Err(e) => {
+            let b = page::refusal(page, at, e);
+            page::text(page, b, b"; ")
+        }
+    }
+}
+
+fn say(page: &mut [u8], at: usize, a: Answer, s: &[u8]) -> usize {
     match a {
         Answer::Ready => page::text(page, at, b"ready; "),
         Answer::Taken => page::text(page, at, b"taken; "),
@@ -547,50 +480,50 @@ fn say_answer(page: &mut [u8], at: usize, a: Answer, s: &[u8]) -> usize {
         Answer::Dropped => page::text(page, at, b"dropped; "),
         Answer::Discarded(n) => page::line(page, at, b"discarded #; ", &[n as u64]),
         Answer::Nothing => page::text(page, at, b"nothing; "),
-        Answer::Ordered(id, small, place, len) => {
-            let b = page::line(page, at, b"message id # in ", &[id]);
-            say_message(page, b, small, place, len, s)
+        Answer::Ordered(m) => {
+            let b = page::line(page, at, b"message id # in ", &[m.id.0]);
+            say_message(page, b, m.store, m.place, m.len, s)
         }
-        Answer::Message(small, place, len) => {
+        Answer::Message(m) => {
             let b = page::text(page, at, b"message in ");
-            say_message(page, b, small, place, len, s)
+            say_message(page, b, m.store, m.place, m.len, s)
         }
-        Answer::Lent(n, m) => {
-            page::line(page, at, b"lent small # lanes #; ", &[n as u64, m as u64])
-        }
+        Answer::Lent(n) => page::line(
+            page,
+            at,
+            b"lent small # lanes #; ",
+            &[n.small as u64, n.lanes as u64],
+        ),
         Answer::Digest(n, m) => page::line(page, at, b"small # lanes #; ", &[n, m]),
         Answer::Usage => at,
-        Answer::Refused(e) => {
-            let b = page::refusal(page, at, e);
-            page::text(page, b, b"; ")
-        }
     }
 }
 
 fn say_message(
     page: &mut [u8],
     at: usize,
-    small: bool,
+    store: Store,
     place: usize,
     len: usize,
     s: &[u8],
 ) -> usize {
-    let a = say_store(page, at, small);
+    let a = page::text(page, at, named(store));
     let b = page::line(page, a, b" at # length # ", &[place as u64, len as u64]);
     let c = page::bytes(page, b, s);
     page::text(page, c, b"; ")
 }
 
-fn say_store(page: &mut [u8], at: usize, small: bool) -> usize {
-    if small {
-        return page::text(page, at, b"small");
+fn named(store: Store) -> &'static [u8] {
+    match store {
+        Store::Small => b"small",
+        Store::Lanes => b"lanes",
     }
-    page::text(page, at, b"lanes")
 }
 
 // Reads a packet and hands what is in it to the receiver. A further line answers for each message or
 // for the piece, behind the number of the packet's line.
 fn packet(
+    r: &mut Receivers,
     mut t: Turn,
     time: u64,
     bytes: &[u8],
@@ -599,17 +532,25 @@ fn packet(
     small: &mut [u8],
     lanes: &mut [u8],
     page: &mut [u8],
-) -> Turn
-    requires { Sound t.receivers }
-    ensures { Sound result.receivers }
-{
+) -> usize {
     let d = packets::read(bytes, messages, ranges);
     t.at = packets::decoded(page, t.at, d, messages, ranges);
-    let c = contents_for(t.reliable, d);
-    hand_over(t, c, time, bytes, messages, small, lanes, page)
+    match d {
+        Ok((p, _)) => {
+            let c = contents_for(t.reliable, p);
+            let a = say_kind(page, t.at, c);
+            t.at = used(r, t.reliable, page, a);
+            hand_over(r, t, c, time, bytes, messages, small, lanes, page)
+        }
+        Err(_) => {
+            let a = page::text(page, t.at, b"; ");
+            used(r, t.reliable, page, a)
+        }
+    }
 }
 
 fn hand_over(
+    r: &mut Receivers,
     t: Turn,
     c: Contents,
     time: u64,
@@ -618,37 +559,24 @@ fn hand_over(
     small: &mut [u8],
     lanes: &mut [u8],
     page: &mut [u8],
-) -> Turn
-    requires { Sound t.receivers }
-    ensures { Sound result.receivers }
-{
-    let a = say_kind(page, t.at, c);
-    let t = used(t, page, a);
+) -> usize {
     match c {
-        Contents::Messages(n) => handed(t, n, bytes, messages, small, lanes, page),
+        Contents::Messages(n) => handed(r, t, n, bytes, messages, small, lanes, page),
         Contents::Piece(s) => {
             let numbers = [s.message_id.0, s.slice_index.0, s.num_slices, time];
             let part = packets::bytes_at(bytes, s.place, s.len);
-            further(t, SLICE, 0, &numbers, part, small, lanes, page)
+            further(r, t, SLICE, 0, &numbers, part, small, lanes, page)
         }
-        _ => t,
+        Contents::Other => t.at,
     }
 }
 
-fn contents_for(reliable: bool, d: Decoded) -> Contents {
-    let Decoded::Whole(p, _) = d else {
-        return Contents::Nothing;
-    };
-    if reliable {
-        return match p {
-            Packet::SmallReliable(s) => Contents::Messages(s.count),
-            Packet::ReliableSlice(s) => Contents::Piece(s),
-            _ => Contents::Other,
-        };
-    }
-    match p {
-        Packet::SmallUnreliable(s) => Contents::Messages(s.count),
-        Packet::UnreliableSlice(s) => Contents::Piece(s),
+fn contents_for(reliable: bool, p: Packet) -> Contents {
+    match (reliable, p) {
+        (true, Packet::SmallReliable(s)) => Contents::Messages(s.count),
+        (true, Packet::ReliableSlice(s)) => Contents::Piece(s),
+        (false, Packet::SmallUnreliable(s)) => Contents::Messages(s.count),
+        (false, Packet::UnreliableSlice(s)) => Contents::Piece(s),
         _ => Contents::Other,
     }
 }
@@ -663,6 +591,7 @@ fn say_kind(page: &mut [u8], at: usize, c: Contents) -> usize {
 
 // Hands the messages of a packet over, one after the other.
 fn handed(
+    r: &mut Receivers,
     t: Turn,
     count: usize,
     bytes: &[u8],
@@ -670,23 +599,29 @@ fn handed(
     small: &mut [u8],
     lanes: &mut [u8],
     page: &mut [u8],
-) -> Turn
-    requires { Sound t.receivers }
-    ensures { Sound result.receivers }
-{
-    let mut r = t;
-    let mut i = 0;
-    while i < count {
+) -> usize {
+    let mut at = t.at;
+    for i in 0..count {
         let id = packets::id_at(messages, i);
         let s = packets::message_at(bytes, messages, i);
-        r = further(r, MESSAGE, i, &[id], s, small, lanes, page);
-        i += 1;
+        at = further(
+            r,
+            Turn { at, ..t },
+            MESSAGE,
+            i,
+            &[id],
+            s,
+            small,
+            lanes,
+            page,
+        );
     }
-    r
+    at
 }
 
 // Answers for the i-th message of a packet, or for its piece, in a further line.
 fn further(
+    r: &mut Receivers,
     mut t: Turn,
     k: usize,
     i: usize,
@@ -695,11 +630,8 @@ fn further(
     small: &mut [u8],
     lanes: &mut [u8],
     page: &mut [u8],
-) -> Turn
-    requires { Sound t.receivers }
-    ensures { Sound result.receivers }
-{
+) -> usize {
     t.k = k;
     t.at = packets::numbered(page, t.at, t.n, i);
-    plain(t, numbers, bytes, small, lanes, page)
+    plain(r, t, numbers, bytes, small, lanes, page)
 }

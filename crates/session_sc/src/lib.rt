@@ -10,14 +10,31 @@ ghost use Rattle.session_sc.specs.Lend.{lent_after_of};
 use answers::packets;
 use arguments::Read;
 use memory::LANE;
-use slice_constructor::{Begin, Collect, SliceConstructor};
-use words::{MessageId, SliceIndex};
+use slice_constructor::SliceConstructor;
+use std::marker::Model;
+use words::{MessageId, Refusal, SliceIndex};
 
 // The reassembly, and how many bytes of its lane are lent.
 #[derive(Clone, Copy)]
 pub struct End {
     pub state: SliceConstructor,
     pub lane: usize,
+}
+
+// A contract sees its fields. That the reassembly is valid is always true of them.
+impl Model for End {
+    ghost use Rattle.session_sc.specs.State.{State};
+
+    ghost Value = { State };
+
+    ghost use Rattle.slice_constructor.specs.Collect.{Valid};
+    ghost use Rattle.session_sc.specs.Fields.{state_of, fields_of};
+
+    ghost view = { state_of };
+
+    ghost invariant = { λ a. Valid a.state };
+
+    ghost inverse = { fields_of };
 }
 
 // The reassembly after a call, and the place after the answer.
@@ -32,11 +49,13 @@ pub fn start() -> End
     ensures { Valid result.state × (result.lane ≡ LANE) }
 {
     let begun = SliceConstructor::new(MessageId(0), 1);
-    let state = begun.state;
-    End { state, lane: LANE }
+    End {
+        state: begun.state,
+        lane: LANE,
+    }
 }
 
-// The calls, in the order of `answer`.
+// The calls, in the order of `answer`: a line that is read tells a call by its place in the list.
 pub fn read(line: &[u8], from: usize, numbers: &mut [u64], bytes: &mut [u8]) -> Read
     ensures { leaves result numbers.new bytes.new ≡ taken_apart_of (ascii "new nn slice nb lend E digest -") line.now from numbers.old bytes.old }
 {
@@ -59,13 +78,13 @@ pub fn call(
     page: &mut [u8],
     at: usize,
 ) -> Told
-    requires { Valid e.state }
     ensures { Valid result.end.state × (result.end.lane ≡ lent_after_of k numbers.now e.lane) }
 {
     let t = answer(e, k, numbers, bytes, lane, page, at);
-    let end = t.end;
-    let a = page::text(page, t.at, b"\n");
-    Told { end, at: a }
+    Told {
+        end: t.end,
+        at: page::text(page, t.at, b"\n"),
+    }
 }
 
 fn answer(
@@ -77,7 +96,6 @@ fn answer(
     page: &mut [u8],
     at: usize,
 ) -> Told
-    requires { Valid e.state }
     ensures { Valid result.end.state × (result.end.lane ≡ lent_after_of k numbers.now e.lane) }
 {
     match k {
@@ -89,19 +107,17 @@ fn answer(
 }
 
 fn new(e: End, numbers: &[u64], page: &mut [u8], at: usize) -> Told
-    requires { Valid e.state }
     ensures { Valid result.end.state × (result.end.lane ≡ e.lane) }
 {
     let begun = SliceConstructor::new(MessageId(page::word(numbers, 0)), page::word(numbers, 1));
-    let answer = begun.answer;
-    match answer {
-        Begin::Refused(why) => {
-            let a = page::refusal(page, at, why);
-            Told { end: e, at: a }
-        }
-        Begin::Ready => {
+    match begun.answer {
+        Ok(()) => {
             let a = page::text(page, at, b"ready");
             with(e, begun.state, a)
+        }
+        Err(why) => {
+            let a = page::refusal(page, at, why);
+            Told { end: e, at: a }
         }
     }
 }
@@ -112,31 +128,25 @@ fn with(e: End, state: SliceConstructor, at: usize) -> Told
     ensures { Valid result.end.state × (result.end.lane ≡ e.lane) }
 {
     Told {
-        end: End {
-            state,
-            lane: e.lane,
-        },
+        end: End { state, ..e },
         at,
     }
 }
 
 fn lend(e: End, numbers: &[u64], page: &mut [u8], at: usize) -> Told
-    requires { Valid e.state }
     ensures { Valid result.end.state × (result.end.lane ≡ get_or numbers.now 0 0) }
 {
-    let state = e.state;
     let a = page::line(page, at, b"lent lane #", numbers);
     Told {
         end: End {
-            state,
             lane: page::size(numbers, 0),
+            ..e
         },
         at: a,
     }
 }
 
 fn digest(e: End, lane: &[u8], page: &mut [u8], at: usize) -> Told
-    requires { Valid e.state }
     ensures { Valid result.end.state × (result.end.lane ≡ e.lane) }
 {
     let a = page::line(page, at, b"lane #", &[say::digest_bytes(lane)]);
@@ -144,24 +154,29 @@ fn digest(e: End, lane: &[u8], page: &mut [u8], at: usize) -> Told
 }
 
 fn slice(e: End, index: u64, bytes: &[u8], lane: &mut [u8], page: &mut [u8], at: usize) -> Told
-    requires { Valid e.state }
     ensures { Valid result.end.state × (result.end.lane ≡ e.lane) }
 {
     let n = page::part(e.lane, lane);
-    let state = e.state;
-    let r = state.process_slice(SliceIndex(index), bytes, &mut lane[..n]);
-    let answer = r.answer;
-    let a = say_collect(page, at, answer, lane);
+    let r = e
+        .state
+        .process_slice(SliceIndex(index), bytes, &mut lane[..n]);
+    let a = say_collect(page, at, r.answer, lane);
     with(e, r.state, a)
 }
 
-fn say_collect(page: &mut [u8], at: usize, c: Collect, lane: &[u8]) -> usize {
+// Says how long the message is, and its bytes, if it is whole.
+fn say_collect(
+    page: &mut [u8],
+    at: usize,
+    c: Result<Option<usize>, Refusal>,
+    lane: &[u8],
+) -> usize {
     match c {
-        Collect::More => page::text(page, at, b"more"),
-        Collect::Refused(why) => page::refusal(page, at, why),
-        Collect::Whole(len) => {
+        Ok(None) => page::text(page, at, b"more"),
+        Ok(Some(len)) => {
             let a = page::line(page, at, b"whole # ", &[len as u64]);
             page::bytes(page, a, packets::bytes_at(lane, 0, len))
         }
+        Err(why) => page::refusal(page, at, why),
     }
 }

@@ -1,2 +1,4 @@
 pub mod Calls
+pub mod Fields
 pub mod Sound
+pub mod State

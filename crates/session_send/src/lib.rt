@@ -2,18 +2,16 @@
 // Calls on the two senders. A call answers a value, and the page comes in where that is said.
 ghost use Rattle.std.specs.Prelude.{◌≡◌, ◌≤◌, length};
 ghost use Rattle.arguments.specs.Arguments.{leaves, taken_apart_of};
-ghost use Rattle.send_reliable.specs.Sender as srv;
-ghost use Rattle.send_unreliable.specs.Sender as suv;
 ghost use Rattle.session_send.specs.Calls.{calls_of};
 ghost use Rattle.session_send.specs.Sound.{Sound, Own, PartsGive, CallGives, lent_to, seen_by, beginning, whole};
 
 use answers::Call;
 use arguments::Read;
-use channel::Setup;
 use memory::Span;
-use pack::{Went, Written};
+use pack::Written;
 use send_reliable::{Ack, SendChannelReliable};
-use send_unreliable::SendChannelUnreliable;
+use send_unreliable::{Queue, SendChannelUnreliable};
+use std::marker::Model;
 use words::{MessageId, Refusal, Sequence, SliceIndex};
 
 // How long the reliable sender waits before it sends again, at first.
@@ -38,6 +36,22 @@ pub struct Senders {
     su_lent: Lent,
 }
 
+// A contract sees the fields, of which `Sound` is always true.
+impl Model for Senders {
+    ghost use Rattle.session_send.specs.State.{State};
+
+    ghost Value = { State };
+
+    ghost use Rattle.session_send.specs.Sound.{Sound};
+    ghost use Rattle.session_send.specs.Fields.{state_of, fields_of};
+
+    ghost view = { state_of };
+
+    ghost invariant = { λ a. Sound (state_of a) };
+
+    ghost inverse = { fields_of };
+}
+
 // The senders after a call, and the place after its answer.
 #[derive(Clone, Copy)]
 pub struct Told {
@@ -45,7 +59,7 @@ pub struct Told {
     pub at: usize,
 }
 
-// What a call answers.
+// What a call answers, if it isn't refused.
 #[derive(Clone, Copy)]
 enum Said {
     Ready,
@@ -60,27 +74,33 @@ enum Said {
     Digest(u64, u64, u64, u64),
     Usage,
     Sent(Written),
-    Refused(Refusal),
 }
 
-// The senders after a call, and what it answers.
-#[derive(Clone, Copy)]
-struct Done {
-    senders: Senders,
-    said: Said,
+type Answer = Result<Said, Refusal>;
+
+// What a call sees of a sender's two stores, and of the bytes and the table for the packets of a round.
+#[derive(Drop)]
+struct Stores<'a> {
+    small: &'a mut [u8],
+    lanes: &'a mut [u8],
+}
+
+#[derive(Drop)]
+struct Room<'a> {
+    out: &'a mut [u8],
+    table: &'a mut [u64],
 }
 
 // The senders at first.
+#[tactic(auto, unfolding(crate::specs::Sound::Sound))]
 pub fn start() -> Senders
     ensures { Sound result × (result.sr_lent ≡ whole) × (result.su_lent ≡ whole) }
 {
     let sr = SendChannelReliable::new(0, answers::lent::whole(), RESEND_TIME);
     let su = SendChannelUnreliable::new(0, answers::lent::whole());
-    let sr = sr.state;
-    let su = su.state;
     Senders {
-        sr,
-        su,
+        sr: sr.state,
+        su: su.state,
         sr_lent: all(),
         su_lent: all(),
     }
@@ -134,7 +154,8 @@ pub fn packets(s: Senders, reliable: bool) -> usize
     s.su_lent.packets
 }
 
-// Makes a call on one of the senders and answers it. Of the memory of all ends it is lent what it sees.
+// Makes a call on one of the senders and answers it. Of the memory of all ends it is lent what it sees:
+// each buffer by itself, since what `CallGives` says of each is said of the caller's own.
 pub fn call(
     s: Senders,
     reliable: bool,
@@ -149,30 +170,21 @@ pub fn call(
     ranges: &mut [u64],
     page: &mut [u8],
 ) -> Told
-    requires { Sound s }
     ensures { CallGives reliable (seen_by s reliable c.k)
         small.old small.new lanes.old lanes.new
         out.old out.new table.old table.new result.senders }
 {
-    let p = parts_of(s, reliable, c.k, small, lanes, out, table);
-    let a = p.small.start;
-    let b = p.small.end;
-    let d = p.lanes.start;
-    let e = p.lanes.end;
-    let f = p.out.start;
-    let g = p.out.end;
-    let h = p.table.start;
-    let i = p.table.end;
+    let p = parts_of(&s, reliable, c.k, small, lanes, out, table);
     answer(
         s,
         reliable,
         c,
         numbers,
         bytes,
-        &mut small[a..b],
-        &mut lanes[d..e],
-        &mut out[f..g],
-        &mut table[h..i],
+        &mut small[p.small.start..p.small.end],
+        &mut lanes[p.lanes.start..p.lanes.end],
+        &mut out[p.out.start..p.out.end],
+        &mut table[p.table.start..p.table.end],
         messages,
         ranges,
         page,
@@ -180,8 +192,8 @@ pub fn call(
 }
 
 // How much a call sees: what is lent, but a digest is of all.
-fn seen(s: Senders, reliable: bool, k: usize) -> Lent
-    ensures { result ≡ seen_by s reliable k }
+fn seen(s: &Senders, reliable: bool, k: usize) -> Lent
+    ensures { result ≡ seen_by s.now reliable k }
 {
     if k == DIGEST {
         return all();
@@ -213,7 +225,7 @@ fn begins(reliable: bool, n: usize) -> usize
 
 // What a call sees of the memory of all ends.
 fn parts_of(
-    s: Senders,
+    s: &Senders,
     reliable: bool,
     k: usize,
     small: &[u8],
@@ -221,21 +233,21 @@ fn parts_of(
     out: &[u8],
     table: &[u64],
 ) -> Parts
-    ensures { PartsGive reliable (seen_by s reliable k)
+    ensures { PartsGive reliable (seen_by s.now reliable k)
         (length small.now) (length lanes.now) (length out.now) (length table.now) result }
 {
     let l = seen(s, reliable, k);
     Parts {
-        small: memory::bytes_span(small, begins(reliable, memory::SMALL), l.small),
-        lanes: memory::bytes_span(lanes, begins(reliable, memory::LANES), l.lanes),
-        out: memory::bytes_span(out, begins(reliable, memory::OUT), l.out),
-        table: memory::words_span(table, begins(reliable, memory::TABLE), l.table),
+        small: memory::span_of(small, begins(reliable, memory::SMALL), l.small),
+        lanes: memory::span_of(lanes, begins(reliable, memory::LANES), l.lanes),
+        out: memory::span_of(out, begins(reliable, memory::OUT), l.out),
+        table: memory::span_of(table, begins(reliable, memory::TABLE), l.table),
     }
 }
 
 // Makes a call with what it sees of the memory, and answers it. A round has a line for each packet.
 fn answer(
-    s: Senders,
+    mut s: Senders,
     reliable: bool,
     c: Call,
     numbers: &[u64],
@@ -248,319 +260,222 @@ fn answer(
     ranges: &mut [u64],
     page: &mut [u8],
 ) -> Told
-    requires { Sound s }
     ensures { Sound result.senders }
 {
-    let done = made(s, reliable, c.k, numbers, bytes, small, lanes, out, table);
-    let said = done.said;
-    let senders = lent_after(done.senders, reliable, said);
-    let a = say_all(page, c.at, said, usage(senders, reliable));
-    let at = answers::packets::listed(page, a, c.n, sent(said), out, table, messages, ranges);
-    Told { senders, at }
+    let mut stores = Stores { small, lanes };
+    let mut room = Room { out, table };
+    let answer = s.make(reliable, c.k, numbers, bytes, &mut stores, &mut room);
+    s.lend(reliable, answer);
+    let a = say_all(page, c.at, answer, s.usage(reliable));
+    let at = answers::packets::listed(page, a, c.n, sent(answer), out, table, messages, ranges);
+    Told { senders: s, at }
 }
 
-fn made(
-    s: Senders,
-    reliable: bool,
-    k: usize,
-    numbers: &[u64],
-    bytes: &[u8],
-    small: &mut [u8],
-    lanes: &mut [u8],
-    out: &mut [u8],
-    table: &mut [u64],
-) -> Done
-    requires { Sound s }
-    ensures { Sound result.senders }
-{
-    match k {
-        1 => send(s, reliable, bytes, small, lanes),
-        2 => round(s, reliable, numbers, small, lanes, out, table),
-        DIGEST => unchanged(s, digest(small, lanes, out, table)),
-        _ => plain(s, reliable, k, numbers),
+impl Senders {
+    // Makes a call on one of the senders, by its number in the list of `read`.
+    fn make(
+        &mut self,
+        reliable: bool,
+        k: usize,
+        numbers: &[u64],
+        bytes: &[u8],
+        stores: &mut Stores,
+        room: &mut Room,
+    ) -> Answer {
+        match k {
+            0 => self.renew(reliable, numbers),
+            1 => self.send(reliable, bytes, stores),
+            2 => self.round(reliable, numbers, stores, room),
+            8 => self.ack(MessageId(page::word(numbers, 0))),
+            9 => self.ack_slice(
+                MessageId(page::word(numbers, 0)),
+                SliceIndex(page::word(numbers, 1)),
+            ),
+            DIGEST => Ok(digest(stores, room)),
+            _ => Ok(self.told(reliable, k, numbers)),
+        }
     }
-}
 
-// Makes a call that needs no memory. 8 and 9 stand in the reliable sender's list alone.
-fn plain(s: Senders, reliable: bool, k: usize, numbers: &[u64]) -> Done
-    requires { Sound s }
-    ensures { Sound result.senders }
-{
-    match k {
-        0 => new(s, reliable, numbers),
-        3 => unchanged(s, Said::Available(available(s, reliable))),
-        4 => unchanged(s, Said::Can(can_send(s, reliable, page::size(numbers, 0)))),
-        5 => unchanged(s, lend(numbers)),
-        8 => ack(s, MessageId(page::word(numbers, 0))),
-        9 => ack_slice(
-            s,
-            MessageId(page::word(numbers, 0)),
-            SliceIndex(page::word(numbers, 1)),
-        ),
-        _ => unchanged(s, Said::Usage),
+    // What a call that changes no sender answers.
+    fn told(&self, reliable: bool, k: usize, numbers: &[u64]) -> Said {
+        match k {
+            3 => Said::Available(self.available(reliable)),
+            4 => Said::Can(self.can_send(reliable, page::size(numbers, 0))),
+            5 => Said::Lent(
+                page::word(numbers, 0),
+                page::word(numbers, 1),
+                page::word(numbers, 2),
+                page::word(numbers, 3),
+            ),
+            _ => Said::Usage,
+        }
     }
-}
 
-// The parts of sound senders, and sound senders with another part.
-fn sr_of(s: Senders) -> SendChannelReliable
-    requires { Sound s }
-    ensures { srv.Valid result }
-{
-    s.sr
-}
-
-fn su_of(s: Senders) -> SendChannelUnreliable
-    requires { Sound s }
-    ensures { suv.Valid result }
-{
-    s.su
-}
-
-fn with_sr(mut s: Senders, state: SendChannelReliable, said: Said) -> Done
-    requires sound { Sound s }
-    requires valid { srv.Valid state }
-    ensures { Sound result.senders }
-{
-    s.sr = state;
-    Done { senders: s, said }
-}
-
-fn with_su(mut s: Senders, state: SendChannelUnreliable, said: Said) -> Done
-    requires sound { Sound s }
-    requires valid { suv.Valid state }
-    ensures { Sound result.senders }
-{
-    s.su = state;
-    Done { senders: s, said }
-}
-
-fn unchanged(s: Senders, said: Said) -> Done
-    requires { Sound s }
-    ensures { Sound result.senders }
-{
-    Done { senders: s, said }
-}
-
-// What a sender is lent after a call.
-fn lent_after(mut s: Senders, reliable: bool, said: Said) -> Senders
-    requires { Sound s }
-    ensures { Sound result }
-{
-    if reliable {
-        let l = lent_by(s.sr_lent, said);
-        s.sr_lent = l;
-        return s;
+    // What a sender is lent after a call.
+    #[tactic(auto, unfolding(crate::specs::Sound::Sound))]
+    fn lend(&mut self, reliable: bool, answer: Answer)
+        ensures { Sound self.new }
+    {
+        if reliable {
+            self.sr_lent = lent_by(self.sr_lent, answer);
+        } else {
+            self.su_lent = lent_by(self.su_lent, answer);
+        }
     }
-    let l = lent_by(s.su_lent, said);
-    s.su_lent = l;
-    s
+
+    // A new sender. A refused set-up leaves it as it was.
+    #[tactic(auto, unfolding(crate::specs::Sound::Sound))]
+    fn renew(&mut self, reliable: bool, numbers: &[u64]) -> Answer {
+        let channel_id = (page::word(numbers, 0) % 256) as u8;
+        let settings = answers::lent::settings(numbers, 1);
+        if reliable {
+            let made = SendChannelReliable::new(channel_id, settings, page::word(numbers, 5));
+            made.answer?;
+            self.sr = made.state;
+            return Ok(Said::Ready);
+        }
+        let made = SendChannelUnreliable::new(channel_id, settings);
+        made.answer?;
+        self.su = made.state;
+        Ok(Said::Ready)
+    }
+
+    #[tactic(auto, unfolding(crate::specs::Sound::Sound))]
+    fn send(&mut self, reliable: bool, message: &[u8], stores: &mut Stores) -> Answer {
+        if reliable {
+            let r = self.sr.send_message(message, stores.small, stores.lanes);
+            self.sr = r.state;
+            return r.answer.map(|id| Said::Id(id.0));
+        }
+        let r = self.su.send_message(message, stores.small, stores.lanes);
+        self.su = r.state;
+        r.answer.map(|queue| match queue {
+            Queue::Taken => Said::Taken,
+            Queue::Dropped => Said::Dropped,
+        })
+    }
+
+    #[tactic(auto, unfolding(crate::specs::Sound::Sound))]
+    fn round(
+        &mut self,
+        reliable: bool,
+        numbers: &[u64],
+        stores: &Stores,
+        room: &mut Room,
+    ) -> Answer {
+        let sequence = Sequence(page::word(numbers, 0));
+        let second = page::word(numbers, 1);
+        if reliable {
+            let r = self.sr.get_packets_to_send(
+                sequence,
+                second,
+                page::word(numbers, 2),
+                stores.small,
+                stores.lanes,
+                room.out,
+                room.table,
+            );
+            self.sr = r.state;
+            return r.answer.map(|written| Said::Sent(written));
+        }
+        let r = self.su.get_packets_to_send(
+            sequence,
+            second,
+            stores.small,
+            stores.lanes,
+            room.out,
+            room.table,
+        );
+        self.su = r.state;
+        r.answer.map(|written| Said::Sent(written))
+    }
+
+    #[tactic(auto, unfolding(crate::specs::Sound::Sound))]
+    fn ack(&mut self, id: MessageId) -> Answer {
+        let r = self.sr.process_message_ack(id);
+        self.sr = r.state;
+        r.answer.map(acked)
+    }
+
+    #[tactic(auto, unfolding(crate::specs::Sound::Sound))]
+    fn ack_slice(&mut self, id: MessageId, index: SliceIndex) -> Answer {
+        let r = self.sr.process_slice_message_ack(id, index);
+        self.sr = r.state;
+        r.answer.map(acked)
+    }
+
+    fn available(&self, reliable: bool) -> u64 {
+        if reliable {
+            return self.sr.available_memory() as u64;
+        }
+        self.su.available_memory() as u64
+    }
+
+    fn can_send(&self, reliable: bool, size: usize) -> bool {
+        if reliable {
+            return self.sr.can_send_message(size);
+        }
+        self.su.can_send_message(size)
+    }
+
+    fn usage(&self, reliable: bool) -> u64 {
+        if reliable {
+            return self.sr.memory_usage_bytes() as u64;
+        }
+        self.su.memory_usage_bytes() as u64
+    }
 }
 
 // A new sender keeps no packet, and a round those that it sent. What is lent anew is no more than there is.
-fn lent_by(mut l: Lent, said: Said) -> Lent
+fn lent_by(mut l: Lent, answer: Answer) -> Lent
     requires { Own l }
     ensures { Own result }
 {
-    match said {
-        Said::Ready => l.packets = 0,
-        Said::Sent(w) => l.packets = w.packets,
-        Said::Lent(small, lanes, out, table) => {
-            l.small = at_most(memory::SMALL, small);
-            l.lanes = at_most(memory::LANES, lanes);
-            l.out = at_most(memory::OUT, out);
-            l.table = at_most(memory::TABLE, table);
+    match answer {
+        Ok(Said::Ready) => l.packets = 0,
+        Ok(Said::Sent(w)) => l.packets = w.packets,
+        Ok(Said::Lent(small, lanes, out, table)) => {
+            l.small = memory::SMALL.min(small as usize);
+            l.lanes = memory::LANES.min(lanes as usize);
+            l.out = memory::OUT.min(out as usize);
+            l.table = memory::TABLE.min(table as usize);
         }
         _ => {}
     }
     l
 }
 
-fn at_most(most: usize, n: u64) -> usize
-    ensures { result ≤ most }
-{
-    let n = n as usize;
-    if most < n {
-        return most;
-    }
-    n
-}
-
-// A refused set-up leaves the sender as it was.
-fn new(s: Senders, reliable: bool, numbers: &[u64]) -> Done
-    requires { Sound s }
-    ensures { Sound result.senders }
-{
-    let channel_id = (page::word(numbers, 0) % 256) as u8;
-    let settings = answers::lent::settings(numbers, 1);
-    if reliable {
-        let made = SendChannelReliable::new(channel_id, settings, page::word(numbers, 5));
-        let setup = made.answer;
-        if let Setup::Refused(why) = setup {
-            return unchanged(s, Said::Refused(why));
-        }
-        return with_sr(s, made.state, Said::Ready);
-    }
-    let made = SendChannelUnreliable::new(channel_id, settings);
-    let setup = made.answer;
-    if let Setup::Refused(why) = setup {
-        return unchanged(s, Said::Refused(why));
-    }
-    with_su(s, made.state, Said::Ready)
-}
-
-fn send(s: Senders, reliable: bool, message: &[u8], small: &mut [u8], lanes: &mut [u8]) -> Done
-    requires { Sound s }
-    ensures { Sound result.senders }
-{
-    if reliable {
-        let r = sr_of(s).send_message(message, small, lanes);
-        let answer = r.answer;
-        return with_sr(s, r.state, queued(answer));
-    }
-    let r = su_of(s).send_message(message, small, lanes);
-    let answer = r.answer;
-    with_su(s, r.state, queued_or_dropped(answer))
-}
-
-fn queued(q: send_reliable::Queue) -> Said {
-    match q {
-        send_reliable::Queue::Taken(id) => Said::Id(id.0),
-        send_reliable::Queue::Refused(why) => Said::Refused(why),
-    }
-}
-
-fn queued_or_dropped(q: send_unreliable::Queue) -> Said {
-    match q {
-        send_unreliable::Queue::Taken => Said::Taken,
-        send_unreliable::Queue::Dropped => Said::Dropped,
-        send_unreliable::Queue::Refused(why) => Said::Refused(why),
-    }
-}
-
-fn round(
-    s: Senders,
-    reliable: bool,
-    numbers: &[u64],
-    small: &[u8],
-    lanes: &[u8],
-    out: &mut [u8],
-    table: &mut [u64],
-) -> Done
-    requires { Sound s }
-    ensures { Sound result.senders }
-{
-    let sequence = Sequence(page::word(numbers, 0));
-    let second = page::word(numbers, 1);
-    if reliable {
-        let r = sr_of(s).get_packets_to_send(
-            sequence,
-            second,
-            page::word(numbers, 2),
-            small,
-            lanes,
-            out,
-            table,
-        );
-        let answer = r.answer;
-        return with_sr(s, r.state, went(answer));
-    }
-    let r = su_of(s).get_packets_to_send(sequence, second, small, lanes, out, table);
-    let answer = r.answer;
-    with_su(s, r.state, went(answer))
-}
-
-fn went(w: Went) -> Said {
-    match w {
-        Went::Sent(written) => Said::Sent(written),
-        Went::Refused(why) => Said::Refused(why),
-    }
-}
-
-fn digest(small: &[u8], lanes: &[u8], out: &[u8], table: &[u64]) -> Said {
-    Said::Digest(
-        say::digest_bytes(small),
-        say::digest_bytes(lanes),
-        say::digest_bytes(out),
-        say::digest_words(table),
-    )
-}
-
-fn ack(s: Senders, id: MessageId) -> Done
-    requires { Sound s }
-    ensures { Sound result.senders }
-{
-    let r = sr_of(s).process_message_ack(id);
-    let answer = r.answer;
-    with_sr(s, r.state, acked(answer))
-}
-
-fn ack_slice(s: Senders, id: MessageId, index: SliceIndex) -> Done
-    requires { Sound s }
-    ensures { Sound result.senders }
-{
-    let r = sr_of(s).process_slice_message_ack(id, index);
-    let answer = r.answer;
-    with_sr(s, r.state, acked(answer))
-}
-
 fn acked(a: Ack) -> Said {
     match a {
         Ack::Done => Said::Done,
         Ack::Unknown => Said::Unknown,
-        Ack::Refused(why) => Said::Refused(why),
     }
 }
 
-fn available(s: Senders, reliable: bool) -> u64
-    requires { Sound s }
-{
-    if reliable {
-        return sr_of(s).available_memory() as u64;
-    }
-    su_of(s).available_memory() as u64
-}
-
-fn can_send(s: Senders, reliable: bool, size: usize) -> bool
-    requires { Sound s }
-{
-    if reliable {
-        return sr_of(s).can_send_message(size);
-    }
-    su_of(s).can_send_message(size)
-}
-
-fn usage(s: Senders, reliable: bool) -> u64
-    requires { Sound s }
-{
-    if reliable {
-        return sr_of(s).memory_usage_bytes() as u64;
-    }
-    su_of(s).memory_usage_bytes() as u64
-}
-
-fn lend(numbers: &[u64]) -> Said {
-    Said::Lent(
-        page::word(numbers, 0),
-        page::word(numbers, 1),
-        page::word(numbers, 2),
-        page::word(numbers, 3),
+fn digest(stores: &Stores, room: &Room) -> Said {
+    Said::Digest(
+        say::digest_bytes(stores.small),
+        say::digest_bytes(stores.lanes),
+        say::digest_bytes(room.out),
+        say::digest_words(room.table),
     )
 }
 
 // How many packets a call sent.
-fn sent(said: Said) -> usize {
-    match said {
-        Said::Sent(w) => w.packets,
+fn sent(answer: Answer) -> usize {
+    match answer {
+        Ok(Said::Sent(w)) => w.packets,
         _ => 0,
     }
 }
 
 // Says what a call answers, and the memory in use.
-fn say_all(page: &mut [u8], at: usize, said: Said, usage: u64) -> usize {
-    if let Said::Usage = said {
-        return page::line(page, at, b"usage #\n", &[usage]);
-    }
-    let a = say_answer(page, at, said);
+fn say_all(page: &mut [u8], at: usize, answer: Answer, usage: u64) -> usize {
+    let a = match answer {
+        Err(why) => page::refusal(page, at, why),
+        Ok(Said::Usage) => return page::line(page, at, b"usage #\n", &[usage]),
+        Ok(said) => say_answer(page, at, said),
+    };
     page::line(page, a, b"; usage #\n", &[usage])
 }
 
@@ -588,6 +503,5 @@ fn say_answer(page: &mut [u8], at: usize, said: Said) -> usize {
         ),
         Said::Usage => at,
         Said::Sent(w) => answers::packets::sent(page, at, w),
-        Said::Refused(why) => page::refusal(page, at, why),
     }
 }

@@ -1,11 +1,10 @@
 -- Laws of what a call on the wire says and leaves. Assumes nothing.
-use Prim.Native.Nat.{ℕ, zero, suc, ◌≤◌, ◌<◌, min}
-use mathlib.Core.Path.{◌≡◌, refl, sym, ap, subst, ◌∙◌}
+use Prim.Native.Nat.{ℕ, ◌≤◌, ◌<◌, min}
+use mathlib.Core.Path.{◌≡◌, sym, ap, subst, ◌∙◌}
 use mathlib.Core.Bool.{Bool, true, false}
 use mathlib.Core.List.{List, [], ◌∷◌, ◌++◌}
-use native.Mathlib.Nat.{zero-min, suc-min-suc}
 use lib.ListN.{length, take, drop}
-use lib.Seq.{take-nil, drop-nil}
+use Rattle.std.proofs.lemmas.List.{take_min, drop_min}
 use native.Mathlib.Omega.{arith}
 use lib.Dec.{leb}
 use Rattle.words.specs.Choice.{refusal}
@@ -16,10 +15,9 @@ use Rattle.words.specs.declared.Refusal.TheVariants.{BadNumber}
 use Rattle.words.proofs.Unique.{one-refusal}
 use Rattle.octets.specs.Varint.{var_len, var_length}
 use Rattle.octets.specs.Writer.{refused, put_of, outcome}
-use Rattle.octets.specs.declared.Put.{Put}
-use Rattle.octets.specs.declared.Put.TheVariants.{Refused}
+use Rattle.std.specs.Prelude.{Result, Err}
 use Rattle.page.specs.Page.{Sheet, said_refusal}
-use Rattle.packet.specs.declared.Decoded.{Decoded}
+use Rattle.packet.specs.declared.Packet.{Packet}
 use Rattle.answers.specs.Packets.{Reads, decoded_said}
 use Rattle.session_wire.specs.declared.Lent.{Lent}
 use Rattle.session_wire.specs.Wire.{length_said, Decodes, PutsBy, WritesBy, OnOut, puts, writes}
@@ -35,22 +33,12 @@ unfolding var_length
 length-bad e v h = length-by (leb LIMIT v) e (var_len v) h
 
 pub length-refused :
-    (r : Put) (e : Refusal) (v : ℕ) (sh sh' : Sheet) → r ≡ Refused e → put_of r ≡ var_length v → sh' ≡ said_refusal e sh → sh' ≡ length_said (var_length v) sh
+    (r : Result ℕ Refusal) (e : Refusal) (v : ℕ) (sh sh' : Sheet) → r ≡ Err e → put_of r ≡ var_length v → sh' ≡ said_refusal e sh → sh' ≡ length_said (var_length v) sh
 length-refused r e v sh sh' g p s =
     let h : refused (number_of e) ≡ var_length v = sym (ap put_of g) ∙ p in
     rw (← h) (s ∙ ap (λ (x : Refusal). said_refusal x sh) (length-bad e v h))
 
 -- ---- the front of a buffer, as much as is lent or all of it
-
-take_min : (n : ℕ) (l : List ℕ) → take (min n (length l)) l ≡ take n l
-take_min n [] = take-nil (min n 0) ∙ sym (take-nil n)
-take_min zero (x ∷ l) = rw zero-min refl
-take_min (suc n) (x ∷ l) = rw suc-min-suc (ap (λ (t : List ℕ). x ∷ t) (take_min n l))
-
-drop_min : (n : ℕ) (l : List ℕ) → drop (min n (length l)) l ≡ drop n l
-drop_min n [] = drop-nil (min n 0) ∙ sym (drop-nil n)
-drop_min zero (x ∷ l) = rw zero-min refl
-drop_min (suc n) (x ∷ l) = rw suc-min-suc (drop_min n l)
 
 module _ (lent n : ℕ) (l : List ℕ) (e : n ≡ min lent (length l)) where
   front : take n l ≡ take lent l
@@ -67,7 +55,7 @@ module _ (lent n k : ℕ) (ns bs out : List ℕ) (sh sh' : Sheet) (f : List ℕ)
   writes-front h g p = writes h g f (behind lent n out e f) (subst (λ (l : List ℕ). WritesBy k ns bs l sh f sh') (front lent n out e) p)
 
 pub decodes-fronts :
-    (e : Lent) (m n : ℕ) (bs ms rs f g : List ℕ) (d : Decoded) (sh sh' : Sheet) → m ≡ min e.messages (length ms) → n ≡ min e.ranges (length rs)
+    (e : Lent) (m n : ℕ) (bs ms rs f g : List ℕ) (d : Result (Packet × ℕ) Refusal) (sh sh' : Sheet) → m ≡ min e.messages (length ms) → n ≡ min e.ranges (length rs)
     → Reads bs (take m ms) (take n rs) f g d → sh' ≡ decoded_said d (f ++ drop m ms) (g ++ drop n rs) sh
     → Decodes e bs ms rs sh (f ++ drop m ms) (g ++ drop n rs) sh'
 decodes-fronts e m n bs ms rs f g d sh sh' p q r s =

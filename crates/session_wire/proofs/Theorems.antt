@@ -7,20 +7,21 @@ use lib.ListN.{take, drop}
 use Rattle.script.specs.Ascii.{ascii}
 use Rattle.page.specs.Page.{Sheet, said}
 use Rattle.octets.specs.Writer.{Outcome}
-use Rattle.octets.specs.declared.Put.{Put}
+use Rattle.std.specs.Prelude.{Result}
+use Rattle.words.specs.declared.Refusal.{Refusal}
 use Rattle.octets.proofs.Theorems.{one-put}
 use Rattle.answers.specs.Packets.{decoded_said}
 use Rattle.answers.proofs.Theorems.{one-read}
-use Rattle.packet.specs.declared.Decoded.{Decoded}
+use Rattle.packet.specs.declared.Packet.{Packet}
 use Rattle.session_wire.specs.declared.Lent.{Lent}
 use Rattle.session_wire.specs.Wire.{Decodes, Puts, OnOut, puts, writes, gets, Answers, digests, reads, others, Called, lends, answers}
 
-module _ (o : Outcome) (bs : List ℕ) (at : ℕ) (says : Put → List ℕ → Sheet → Sheet) (out : List ℕ) (sh : Sheet) where
+module _ (o : Outcome) (bs : List ℕ) (at : ℕ) (says : Result ℕ Refusal → List ℕ → Sheet → Sheet) (out : List ℕ) (sh : Sheet) where
   one-puts : {p q : List ℕ} {a b : Sheet} → Puts o bs at says out sh p a → Puts o bs at says out sh q b → (p ≡ q) × (a ≡ b)
   one-puts {p} {q} x y =
       let same : x.answer ≡ y.answer = one-put x.answer y.answer x.tells y.tells in
       let left : p ≡ q = x.lent ∙ sym y.lent in
-      (left, x.said ∙ ap (λ (r : Put). says r p sh) same ∙ ap (λ (l : List ℕ). says y.answer l sh) left ∙ sym y.said)
+      (left, x.said ∙ ap (λ (r : Result ℕ Refusal). says r p sh) same ∙ ap (λ (l : List ℕ). says y.answer l sh) left ∙ sym y.said)
 
 module _ (e : Lent) (bs ms rs : List ℕ) (sh : Sheet) where
   one-decodes : {m n r s : List ℕ} {a b : Sheet} → Decodes e bs ms rs sh m r a → Decodes e bs ms rs sh n s b → (m ≡ n) × (r ≡ s) × (a ≡ b)
@@ -28,7 +29,7 @@ module _ (e : Lent) (bs ms rs : List ℕ) (sh : Sheet) where
       let one = one-read bs (take e.messages ms) (take e.ranges rs) x.answer y.answer x.reads y.reads in
       let f : m ≡ n = x.messages ∙ ap (λ (l : List ℕ). l ++ drop e.messages ms) one.1 ∙ sym y.messages in
       let g : r ≡ s = x.ranges ∙ ap (λ (l : List ℕ). l ++ drop e.ranges rs) one.2 ∙ sym y.ranges in
-      (f, g, x.said ∙ ap (λ (d : Decoded). decoded_said d m r sh) one.0 ∙ ap (λ (l : List ℕ). decoded_said y.answer l r sh) f ∙ ap (λ (l : List ℕ). decoded_said y.answer n l sh) g ∙ sym y.said)
+      (f, g, x.said ∙ ap (λ (d : Result (Packet × ℕ) Refusal). decoded_said d m r sh) one.0 ∙ ap (λ (l : List ℕ). decoded_said y.answer l r sh) f ∙ ap (λ (l : List ℕ). decoded_said y.answer n l sh) g ∙ sym y.said)
 
 module _ (lent k : ℕ) (ns bs out : List ℕ) (sh : Sheet) where
   one_out : {p q : List ℕ} {a b : Sheet} → OnOut lent k ns bs out sh p a → OnOut lent k ns bs out sh q b → (p ≡ q) × (a ≡ b)

@@ -1,5 +1,5 @@
 -- What a call on the wire says, and what it leaves in lent memory. docs/SCRIPT.md, "Calls". Calls are numbered as `read` lists them. Assumes nothing.
-use Rattle.std.specs.Prelude.{ℕ, ◌/◌, ◌%◌, ◌≤◌, ◌<◌, ◌≡◌, List, [], ◌∷◌, ◌++◌, length, get_or, take, drop, eqb}
+use Rattle.std.specs.Prelude.{ℕ, ◌/◌, ◌%◌, ◌≤◌, ◌<◌, ◌≡◌, List, [], ◌∷◌, ◌++◌, length, get_or, take, drop, eqb, Result, Ok, Err}
 use Rattle.words.specs.Choice.{pick}
 use Rattle.words.specs.declared.Refusal.TheVariants.{BufferTooShort, BadNumber}
 use Rattle.script.specs.Ascii.{ascii}
@@ -8,8 +8,7 @@ use Rattle.page.specs.Page.{Sheet, said, said_refusal, lined, spelt}
 use Rattle.octets.specs.Reader.{Res, ok, fault, byte, pair}
 use Rattle.octets.specs.Varint.{Part, var, run, var_length, put_var, put_bytes, put_run, pair_bytes, var_bytes, run_bytes}
 use Rattle.octets.specs.Writer.{Outcome, done, refused, put_of, left}
-use Rattle.octets.specs.declared.Put.{Put}
-use Rattle.octets.specs.declared.Put.TheVariants.{To, Refused}
+use Rattle.words.specs.declared.Refusal.{Refusal}
 use Rattle.packet_ack.specs.declared.Range.{Range}
 use Rattle.packet_small.specs.declared.Small.{Small}
 use Rattle.packet_slice.specs.declared.Slice.{Slice}
@@ -18,7 +17,6 @@ use Rattle.packet.specs.Write.{encoded, bytes_of}
 use Rattle.packet.specs.declared.Packet.{Packet}
 use Rattle.packet.specs.declared.Packet.TheVariants.{SmallReliable, SmallUnreliable, ReliableSlice, UnreliableSlice, Ack}
 use Rattle.range_words.specs.Words.{table_of}
-use Rattle.packet.specs.declared.Decoded.{Decoded}
 use Rattle.answers.specs.Packets.{Reads, decoded_said, bytes_at, bytes_to_of}
 use Rattle.session_wire.specs.declared.Lent.{Lent}
 
@@ -51,7 +49,7 @@ get_said k ns bs sh =
 -- ---- read: into the front of each table, as much as is lent; what is behind it stays
 
 pub record Decodes (e : Lent) (bs ms rs : List ℕ) (sh : Sheet) (ms' rs' : List ℕ) (sh' : Sheet) : Type 0 where
-  pub answer : Decoded
+  pub answer : Result (Packet × ℕ) Refusal
   pub fronts : List ℕ × List ℕ
   pub reads : Reads bs (take e.messages ms) (take e.ranges rs) fronts.0 fronts.1 answer
   pub messages : ms' ≡ fronts.0 ++ drop e.messages ms
@@ -60,8 +58,8 @@ pub record Decodes (e : Lent) (bs ms rs : List ℕ) (sh : Sheet) (ms' rs' : List
 
 -- ---- what is written to `out`: the answer o where bs is to go to a place, what stands there then, and what is said
 
-pub record Puts (o : Outcome) (bs : List ℕ) (at : ℕ) (says : Put → List ℕ → Sheet → Sheet) (out : List ℕ) (sh : Sheet) (out' : List ℕ) (sh' : Sheet) : Type 0 where
-  pub answer : Put
+pub record Puts (o : Outcome) (bs : List ℕ) (at : ℕ) (says : Result ℕ Refusal → List ℕ → Sheet → Sheet) (out : List ℕ) (sh : Sheet) (out' : List ℕ) (sh' : Sheet) : Type 0 where
+  pub answer : Result ℕ Refusal
   pub tells : put_of answer ≡ o
   pub lent : out' ≡ left o at bs out
   pub said : sh' ≡ says answer out' sh
@@ -73,9 +71,9 @@ put_answer k at v bs n = pick (eqb k 3) (put_bytes 2 at n) (pick (eqb k 4) (put_
 unfoldable pub put_letters : ℕ → ℕ → List ℕ → List ℕ
 put_letters k v bs = pick (eqb k 3) (pair_bytes (v % 65536)) (pick (eqb k 4) (var_bytes v) (run_bytes bs))
 
-abbrev pub put_said : ℕ → Put → List ℕ → Sheet → Sheet
-put_said at (To n) out sh = spelt (bytes_to_of out at n) (lined (ascii "to # ") (n ∷ []) sh)
-put_said at (Refused e) out sh = said_refusal e sh
+abbrev pub put_said : ℕ → Result ℕ Refusal → List ℕ → Sheet → Sheet
+put_said at (Ok n) out sh = spelt (bytes_to_of out at n) (lined (ascii "to # ") (n ∷ []) sh)
+put_said at (Err e) out sh = said_refusal e sh
 
 abbrev pub PutsBy : ℕ → List ℕ → List ℕ → List ℕ → Sheet → List ℕ → Sheet → Type 0
 PutsBy k ns bs out sh out' sh' =
@@ -111,9 +109,9 @@ messages_by ns = drop 3 ns
 abbrev pub ranges_by : List ℕ → List Range
 ranges_by ns = take (lent_of (length (drop 2 ns) / 2)) (table_of (drop 2 ns))
 
-abbrev pub written_said : Put → List ℕ → Sheet → Sheet
-written_said (To n) out sh = spelt (bytes_at out 0 n) (lined (ascii "written # ") (n ∷ []) sh)
-written_said (Refused e) out sh = said_refusal e sh
+abbrev pub written_said : Result ℕ Refusal → List ℕ → Sheet → Sheet
+written_said (Ok n) out sh = spelt (bytes_at out 0 n) (lined (ascii "written # ") (n ∷ []) sh)
+written_said (Err e) out sh = said_refusal e sh
 
 abbrev pub WritesBy : ℕ → List ℕ → List ℕ → List ℕ → Sheet → List ℕ → Sheet → Type 0
 WritesBy k ns bs out sh out' sh' =

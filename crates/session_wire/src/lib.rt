@@ -13,7 +13,6 @@ ghost use Rattle.session_wire.specs.Lend.{all_lent, lent_by, lent_after_of};
 use answers::packets;
 use arguments::Read;
 use memory::{MESSAGES, RANGES, WIRE};
-use octets::{Got, Put, Run};
 use packet::Packet;
 use packet_ack::Ack;
 use packet_slice::Slice;
@@ -21,7 +20,7 @@ use packet_small::Small;
 use words::{MessageId, Refusal, Sequence, SliceIndex};
 
 // How many words of the tables and how many bytes are lent.
-#[derive(Clone, Copy)]
+#[derive(Clone, Copy, Debug, PartialEq, Eq)]
 pub struct Lent {
     pub messages: usize,
     pub ranges: usize,
@@ -29,7 +28,7 @@ pub struct Lent {
 }
 
 // What is lent after a call, and the place after the answer.
-#[derive(Clone, Copy)]
+#[derive(Clone, Copy, Debug, PartialEq, Eq)]
 pub struct Told {
     pub lent: Lent,
     pub at: usize,
@@ -59,7 +58,8 @@ pub fn read(line: &[u8], from: usize, numbers: &mut [u64], bytes: &mut [u8]) -> 
     )
 }
 
-// Makes the k-th call and answers it.
+// Makes the k-th call and answers it. What is lent comes one by one: of the tables and of `out` only
+// fronts are lent on, each by the call that needs it.
 pub fn call(
     e: Lent,
     k: usize,
@@ -166,8 +166,8 @@ fn decoded(
 ) -> usize
     ensures { Decodes e bytes.now messages.old ranges.old (sheet page.old at) messages.new ranges.new (sheet page.new result) }
 {
-    let m = page::words_part(e.messages, messages);
-    let r = page::words_part(e.ranges, ranges);
+    let m = page::part(e.messages, messages);
+    let r = page::part(e.ranges, ranges);
     let d = packets::read(bytes, &mut messages[..m], &mut ranges[..r]);
     packets::decoded(page, at, d, messages, ranges)
 }
@@ -176,17 +176,16 @@ fn put(k: usize, numbers: &[u64], bytes: &[u8], out: &mut [u8], page: &mut [u8],
     ensures { PutsBy k numbers.now bytes.now out.old (sheet page.old at) out.new (sheet page.new result) }
 {
     let place = page::size(numbers, 0);
-    let r = put_at(k, out, place, page::word(numbers, 1), bytes);
-    match r {
-        Put::Refused(why) => page::refusal(page, at, why),
-        Put::To(n) => {
+    match put_at(k, out, place, page::word(numbers, 1), bytes) {
+        Err(why) => page::refusal(page, at, why),
+        Ok(n) => {
             let a = page::line(page, at, b"to # ", &[n as u64]);
             page::bytes(page, a, packets::bytes_to(out, place, n))
         }
     }
 }
 
-fn put_at(k: usize, out: &mut [u8], place: usize, v: u64, bytes: &[u8]) -> Put
+fn put_at(k: usize, out: &mut [u8], place: usize, v: u64, bytes: &[u8]) -> Result<usize, Refusal>
     ensures { (put_of result ≡ put_answer k place v bytes.now (length out.old)) × (out.new ≡ left (put_of result) place (put_letters k v bytes.now) out.old) }
 {
     match k {
@@ -212,8 +211,8 @@ fn write(
     let held = ranges.len() / 2;
     let table = range_words::from_words(ranges);
     match packet::encode(out, named(k, numbers), messages, table, held, bytes) {
-        Put::Refused(why) => page::refusal(page, at, why),
-        Put::To(n) => {
+        Err(why) => page::refusal(page, at, why),
+        Ok(n) => {
             let a = page::line(page, at, b"written # ", &[n as u64]);
             page::bytes(page, a, packets::bytes_at(out, 0, n))
         }
@@ -273,12 +272,13 @@ fn get(k: usize, numbers: &[u64], bytes: &[u8], page: &mut [u8], at: usize) -> u
     }
 }
 
-fn got(g: Got, page: &mut [u8], at: usize) -> usize
+// A reader refuses for one reason alone.
+fn got(g: Result<(u64, usize), Refusal>, page: &mut [u8], at: usize) -> usize
     ensures { sheet page.new result ≡ value_said (num_of g) (sheet page.old at) }
 {
     match g {
-        Got::Short => page::refusal(page, at, Refusal::BufferTooShort),
-        Got::Value(v, next) => page::line(page, at, b"value # next #", &[v, next as u64]),
+        Err(_) => page::refusal(page, at, Refusal::BufferTooShort),
+        Ok((v, next)) => page::line(page, at, b"value # next #", &[v, next as u64]),
     }
 }
 
@@ -286,8 +286,8 @@ fn got_bytes(bytes: &[u8], place: usize, page: &mut [u8], at: usize) -> usize
     ensures { sheet page.new result ≡ part_said bytes.now (run bytes.now place) (sheet page.old at) }
 {
     match octets::get_bytes_with_varint_length(bytes, place) {
-        Run::Short => page::refusal(page, at, Refusal::BufferTooShort),
-        Run::At(p, len) => {
+        Err(_) => page::refusal(page, at, Refusal::BufferTooShort),
+        Ok((p, len)) => {
             let a = page::line(page, at, b"at # length # ", &[p as u64, len as u64]);
             page::bytes(page, a, packets::bytes_at(bytes, p, len))
         }
@@ -298,7 +298,7 @@ fn length(v: u64, page: &mut [u8], at: usize) -> usize
     ensures { sheet page.new result ≡ length_said (var_length v) (sheet page.old at) }
 {
     match octets::varint_len(v) {
-        Put::Refused(why) => page::refusal(page, at, why),
-        Put::To(n) => page::line(page, at, b"length #", &[n as u64]),
+        Err(why) => page::refusal(page, at, why),
+        Ok(n) => page::line(page, at, b"length #", &[n as u64]),
     }
 }

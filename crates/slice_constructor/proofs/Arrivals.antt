@@ -11,9 +11,7 @@ use Rattle.words.specs.Sizes.{SLICE_SIZE, PIECES, LIMIT}
 use Rattle.words.specs.Lists.{All, reached}
 use Rattle.words.proofs.Lists.{held-still}
 use Rattle.slice_constructor.specs.declared.SliceConstructor.{SliceConstructor}
-use Rattle.slice_constructor.specs.declared.Begun.{Begun}
-use Rattle.slice_constructor.specs.declared.Collected.{Collected}
-use Rattle.slice_constructor.specs.Collect.{Valid, blank_of, begin_number, begin_refusal, BeginGives, collect_refusal, taken, lane_taken, whole_len, missing, whole, collect_of, answer_of, CollectGives}
+use Rattle.slice_constructor.specs.Collect.{Valid, blank_of, begin_number, begin_refusal, Begun, BeginGives, collect_refusal, taken, lane_taken, whole_len, missing, whole, collect_of, answer_of, Collected, CollectGives}
 use Rattle.words.specs.Pieces.{pieces_of, piece_of}
 use Rattle.slice_constructor.specs.Whole.{Holds}
 use Rattle.slice_constructor.specs.Arrivals.{called, after_all, arrivals}

@@ -18,7 +18,7 @@ use Rattle.words.specs.Pieces.{pieces_of, piece_of}
 use Rattle.slice_constructor.specs.Whole.{Holds}
 use Rattle.words.proofs.Tables.{pick-cases, by-test, none-held, same-part, part-before, part-after, part-here}
 use Rattle.slice_constructor.proofs.Valid.{Good, not-refused, piece-room}
-use Rattle.slice_constructor.proofs.Whole.{whole_each}
+use Rattle.slice_constructor.proofs.Whole.{whole_answer, whole_each}
 
 -- ---- the pieces of a message
 
@@ -137,11 +137,7 @@ module _ (c : SliceConstructor) (v : Valid c) (msg lane : List ℕ) (num : c.num
 
   -- the answer, by the counts
   counts : (n : ℕ) → answer_of c ≡ whole n → (c.num_received_slices ≡ c.num_slices) × (whole_len c ≡ n)
-  unfolding answer_of
-  counts n =
-      pick-cases (λ a. a ≡ whole n → (c.num_received_slices ≡ c.num_slices) × (whole_len c ≡ n)) (eqb c.num_received_slices c.num_slices)
-      (λ e a. (eqb-true _ _ e, cc))
-      (λ e a. absurd (let z : ◌≡◌ {A = ℕ} 0 1 = cc in omega arith))
+  counts n a = let k = whole_answer c n a in (eqb-true _ _ k.0, k.1)
 
   -- where the answer says whole, its length is the message's, and the front of the lane is the message
   pub whole-message : 0 < length msg → (n : ℕ) → answer_of c ≡ whole n → (n ≡ length msg) × (take n lane ≡ msg)

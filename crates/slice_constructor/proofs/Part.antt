@@ -17,9 +17,7 @@ use Rattle.words.specs.declared.Refusal.{Refusal}
 use Rattle.words.proofs.Lists.{holds-le}
 use Rattle.words.proofs.Tables.{by-test, pick-cases, clash, holds-split, part-whole, part-splice}
 use Rattle.slice_constructor.specs.declared.SliceConstructor.{SliceConstructor}
-use Rattle.slice_constructor.specs.declared.Collect.{Collect}
-use Rattle.slice_constructor.specs.declared.Collect.TheVariants as collect
-use Rattle.slice_constructor.specs.declared.Collected.{Collected}
+use Rattle.std.specs.Prelude.{Result, Ok, Err, Option, Some, None}
 use Rattle.slice_constructor.specs.Collect as c
 use Rattle.slice_constructor.proofs.Valid as cv
 
@@ -83,18 +81,18 @@ refused-tests true true m n e h = clash (cc)
 refused-tests true false m n e h = clash (cc)
 refused-tests false whole m n e h = (refl, cc)
 
-good-test : (a : Collect) → ((e : Refusal) → a ≡ collect.Refused e → ⊥) → (good : Bool) (x : c.Collection) (e : ℕ) → c.collect_of a ≡ pick good x (c.refused e) → good ≡ true
+good-test : (a : Result (Option ℕ) Refusal) → ((e : Refusal) → a ≡ Err e → ⊥) → (good : Bool) (x : c.Collection) (e : ℕ) → c.collect_of a ≡ pick good x (c.refused e) → good ≡ true
 good-test a k true x e h = refl
-good-test collect.More k false x e h = clash (cc)
-good-test (collect.Whole n) k false x e h = clash (cc)
-good-test (collect.Refused n) k false x e h = absurd (k n refl)
+good-test (Ok None) k false x e h = clash (cc)
+good-test (Ok (Some n)) k false x e h = clash (cc)
+good-test (Err n) k false x e h = absurd (k n refl)
 
-module _ (k : SliceConstructor) (i : ℕ) (bs store : List ℕ) (a m : ℕ) (fits : a + m ≤ length store) (part : List ℕ) (r : Collected)
+module _ (k : SliceConstructor) (i : ℕ) (bs store : List ℕ) (a m : ℕ) (fits : a + m ≤ length store) (part : List ℕ) (r : c.Collected)
     (g : c.CollectGives k i bs (take m (drop a store)) part r) where
   long : length (take m (drop a store)) ≡ m
   long = length-take-le m (drop a store) (simp length-drop (omega arith))
 
-  pub piece-refused : (e : Refusal) → r.answer ≡ collect.Refused e
+  pub piece-refused : (e : Refusal) → r.answer ≡ Err e
       → (eqb (c.collect_refusal k i (length bs) m) 0 ≡ false) × (number_of e ≡ c.collect_refusal k i (length bs) m)
   unfolding c.answer_of
   piece-refused e h =
@@ -102,7 +100,7 @@ module _ (k : SliceConstructor) (i : ℕ) (bs store : List ℕ) (a m : ℕ) (fit
       let n = c.collect_refusal k i (length bs) m in
       refused-tests (eqb n 0) (c.is_whole d) (c.whole_len d) (number_of e) n (ap c.collect_of (sym h) ∙ rw long at g.answer)
 
-  pub piece-good : ((e : Refusal) → r.answer ≡ collect.Refused e → ⊥) → eqb (c.collect_refusal k i (length bs) m) 0 ≡ true
+  pub piece-good : ((e : Refusal) → r.answer ≡ Err e → ⊥) → eqb (c.collect_refusal k i (length bs) m) 0 ≡ true
   piece-good t = let n = c.collect_refusal k i (length bs) m in good-test r.answer t (eqb n 0) _ n (rw long at g.answer)
 
   -- a good piece is in the constructor

@@ -9,10 +9,14 @@ use lib.Dec.{ltb, leb, eqb}
 use lib.ListN.{length, get_or, set, replicate, length-set, length-replicate}
 use lib.Seq.{drop-set-lt, set-get_or}
 use Rattle.words.specs.Sizes.{SLICE_SIZE, PIECES, LIMIT}
+use Rattle.std.specs.Prelude.{Ok, Err}
+use Rattle.words.specs.Refusal.{number_of}
+use Rattle.words.specs.declared.Refusal.{Refusal}
+use Rattle.words.proofs.Unique.{numbered-above}
 use Rattle.words.specs.Lists.{holds, All}
 use Rattle.words.proofs.Lists.{holds_more, none-refused}
 use Rattle.slice_constructor.specs.declared.SliceConstructor.{SliceConstructor}
-use Rattle.slice_constructor.specs.Collect.{Valid, blank_of, sized, collect_refusal, more, taken}
+use Rattle.slice_constructor.specs.Collect.{Valid, blank_of, begin_refusal, BeginGives, sized, collect_refusal, more, taken}
 use Rattle.words.proofs.Tables.{pick-cases, holds-split}
 
 -- ---- a piece that is not refused
@@ -67,11 +71,24 @@ blank-valid id n below most =
       last-most = omega arith;
     }
 
+-- a beginning, by its judgement
+pub begin-good : (id n : ℕ) → begin_refusal id n ≡ 0 → (id < LIMIT) × (n ≤ PIECES)
+unfolding begin_refusal All
+begin-good id n e =
+    let t = none-refused ((leb LIMIT id, 13) ∷ (eqb n 0, 8) ∷ (ltb PIECES n, 12) ∷ []) refl e in
+    (leb-false _ _ t.0, ltb-false _ _ t.1.1.0)
+
+pub begun : (id n : ℕ) → begin_refusal id n ≡ 0 → BeginGives id n (record { answer = Ok tt; state = blank_of id n })
+begun id n e = let g = begin-good id n e in record { number = sym e; state = rw e; valid = blank-valid id n g.0 g.1 }
+
+pub not-begun : (id n : ℕ) (e : Refusal) → begin_refusal id n ≡ number_of e → BeginGives id n (record { answer = Err e; state = blank_of 0 0 })
+not-begun id n e h = record { number = sym h; state = rw (h, numbered-above e); valid = blank-valid 0 0 (omega arith) (omega arith) }
+
 module _ (c : SliceConstructor) (v : Valid c) (i n m : ℕ) (g : Good c i n m) where
   pub in_table : i < length c.received
   in_table = omega (arith, v.received-long, v.num-most, g.low)
 
-  more-valid : get_or c.received i false ≡ false → Valid (more c i n)
+  pub more-valid : get_or c.received i false ≡ false → Valid (more c i n)
   more-valid free =
       let size = piece-most c i n m g in
       record {

@@ -9,8 +9,8 @@ use lib.ListN.{length, get_or, take}
 use lib.Seq.{get_or-take, length-take-le}
 use Rattle.words.specs.Lists.{holds}
 use Rattle.slice_constructor.specs.declared.SliceConstructor.{SliceConstructor}
-use Rattle.slice_constructor.specs.Collect.{Valid, whole_len, missing, whole, answer_of}
-use Rattle.words.proofs.Tables.{holds-split, each-held, all_held}
+use Rattle.slice_constructor.specs.Collect.{Valid, is_whole, whole_len, missing, whole, answer_of}
+use Rattle.words.proofs.Tables.{pick-cases, clash, holds-split, each-held, all_held}
 
 module _ (c : SliceConstructor) (v : Valid c) where
   front_long : length (take c.num_slices c.received) ≡ c.num_slices
@@ -46,3 +46,13 @@ module _ (c : SliceConstructor) (v : Valid c) where
       let n : eqb c.num_received_slices c.num_slices ≡ false =
       ne_eqb _ _ (λ (e : c.num_received_slices ≡ c.num_slices). let z : ◌≡◌ {A = ℕ} 0 1 = cc (whole_each e i low) in omega arith) in
       rw n
+
+-- what the answer says of the counts
+module _ (c : SliceConstructor) where
+  pub whole_answer : (n : ℕ) → answer_of c ≡ whole n → (is_whole c ≡ true) × (whole_len c ≡ n)
+  unfolding answer_of
+  whole_answer n = pick-cases (λ a. a ≡ whole n → (is_whole c ≡ true) × (whole_len c ≡ n)) (is_whole c) (λ e a. (e, cc)) (λ e a. clash (cc))
+
+  pub missing-answer : answer_of c ≡ missing → is_whole c ≡ false
+  unfolding answer_of
+  missing-answer = pick-cases (λ a. a ≡ missing → is_whole c ≡ false) (is_whole c) (λ e a. clash (cc)) (λ e a. e)

@@ -1,16 +1,12 @@
 -- One reassembly. Document 01, part 3, "Sizes and settings" and "Ordered receiver". Assumes nothing.
-use Rattle.std.specs.Prelude.{ℕ, ◌+◌, ◌-◌, ◌*◌, ◌≤◌, ◌<◌, ◌≡◌, Bool, true, false, not, List, [], ◌∷◌, length, get_or, set, drop, replicate, ltb, leb, eqb}
+use Rattle.std.specs.Prelude.{ℕ, ◌+◌, ◌-◌, ◌*◌, ◌≤◌, ◌<◌, ◌≡◌, Bool, true, false, not, List, [], ◌∷◌, length, get_or, set, drop, replicate, ltb, leb, eqb, Result, Ok, Err, Option, Some, None}
 use Rattle.words.specs.Sizes.{SLICE_SIZE, PIECES, LIMIT}
 use Rattle.words.specs.Choice.{pick, refusal}
 use Rattle.words.specs.Lists.{splice, holds}
 use Rattle.words.specs.Refusal.{number_of}
+use Rattle.words.specs.declared.Refusal.{Refusal}
+use Rattle.words.specs.declared.After.{After}
 use Rattle.slice_constructor.specs.declared.SliceConstructor.{SliceConstructor}
-use Rattle.slice_constructor.specs.declared.Begin.{Begin}
-use Rattle.slice_constructor.specs.declared.Begin.TheVariants as begin
-use Rattle.slice_constructor.specs.declared.Begun.{Begun}
-use Rattle.slice_constructor.specs.declared.Collect.{Collect}
-use Rattle.slice_constructor.specs.declared.Collect.TheVariants as collect
-use Rattle.slice_constructor.specs.declared.Collected.{Collected}
 use Rattle.slice_constructor.specs.declared.Kept.{Kept}
 
 -- ---- what is always true of a reassembly
@@ -39,9 +35,13 @@ unfoldable pub begin_refusal : ℕ → ℕ → ℕ
 begin_refusal id n = refusal ((leb LIMIT id, 13) ∷ (eqb n 0, 8) ∷ (ltb PIECES n, 12) ∷ [])
 
 -- the refusal's number, 0 for none
-abbrev pub begin_number : Begin → ℕ
-begin_number begin.Ready = 0
-begin_number (begin.Refused e) = number_of e
+abbrev pub begin_number : Result (Unit {0}) Refusal → ℕ
+begin_number (Ok done) = 0
+begin_number (Err e) = number_of e
+
+-- the answer to a beginning, and the state
+abbrev pub Begun : Type 0
+Begun = After (Result (Unit {0}) Refusal) SliceConstructor
 
 -- a refused one is blank
 pub record BeginGives (id n : ℕ) (r : Begun) : Type 0 where
@@ -118,10 +118,14 @@ pub data Collection : Type 0 where
   whole : ℕ → Collection
   refused : ℕ → Collection
 
-abbrev pub collect_of : Collect → Collection
-collect_of collect.More = missing
-collect_of (collect.Whole n) = whole n
-collect_of (collect.Refused e) = refused (number_of e)
+abbrev pub collect_of : Result (Option ℕ) Refusal → Collection
+collect_of (Ok None) = missing
+collect_of (Ok (Some n)) = whole n
+collect_of (Err e) = refused (number_of e)
+
+-- the answer to a piece, and the state
+abbrev pub Collected : Type 0
+Collected = After (Result (Option ℕ) Refusal) SliceConstructor
 
 -- whole when as many pieces are here as the message has
 unfoldable pub answer_of : SliceConstructor → Collection

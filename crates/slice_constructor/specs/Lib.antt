@@ -1,3 +1,5 @@
+pub mod State
+pub mod Fields
 pub mod Collect
 pub mod Whole
 pub mod Steps

@@ -1,11 +1,13 @@
 #![tactic(auto)]
 // One reassembly: which pieces of a message are here, where each goes in the lane that is lent for
 // it, and when the message is whole. Pieces come in any order, and may repeat.
-ghost use Rattle.std.specs.Prelude.{◌≡◌, ◌<◌, length};
-ghost use Rattle.slice_constructor.specs.Collect.{Valid, blank_of, BeginGives, start_of, kept_of, sized, collect_refusal, taken, lane_taken, collect_of, answer_of, CollectGives};
+ghost use Rattle.std.specs.Prelude.{◌≡◌, ◌<◌, ◌≤◌, true, length, Ok};
+ghost use Rattle.words.specs.Sizes as sizes;
+ghost use Rattle.slice_constructor.specs.Collect.{Valid, blank_of, begin_number, begin_refusal, BeginGives, start_of, kept_of, sized, collect_refusal, taken, lane_taken, collect_of, answer_of, CollectGives};
 ghost use Rattle.slice_constructor.specs.Steps.{judged_number};
 
-use words::{LIMIT, MessageId, PIECES, Refusal, SLICE_SIZE, SliceIndex};
+use std::marker::Model;
+use words::{After, LIMIT, MessageId, PIECES, Refusal, SLICE_SIZE, SliceIndex};
 
 // One reassembly. A blank one has no piece to come.
 #[derive(Clone, Copy)]
@@ -17,35 +19,32 @@ pub struct SliceConstructor {
     received: [bool; PIECES],
 }
 
-// Whether a reassembly was begun.
-#[derive(Clone, Copy)]
-pub enum Begin {
-    Ready,
-    Refused(Refusal),
+// A contract sees its fields, of which `Valid` is always true.
+impl Model for SliceConstructor {
+    ghost use Rattle.slice_constructor.specs.State.{State};
+
+    ghost Value = { State };
+
+    ghost use Rattle.slice_constructor.specs.Collect.{Valid};
+    ghost use Rattle.slice_constructor.specs.Fields.{state_of, fields_of};
+
+    ghost view = { state_of };
+
+    ghost invariant = { λ a. Valid (state_of a) };
+
+    ghost inverse = { fields_of };
 }
 
-#[derive(Clone, Copy)]
-pub struct Begun {
-    pub answer: Begin,
-    pub state: SliceConstructor,
-}
+// Whether a reassembly was begun, and its state; a refused one's is blank.
+pub type Begun = After<Result<(), Refusal>, SliceConstructor>;
 
-// What came of a piece: more are to come, or the message is whole and so long.
-#[derive(Clone, Copy)]
-pub enum Collect {
-    More,
-    Whole(usize),
-    Refused(Refusal),
-}
-
-#[derive(Clone, Copy)]
-pub struct Collected {
-    pub answer: Collect,
-    pub state: SliceConstructor,
-}
+// How long the message is, if the piece made it whole; None while more are to come. And the state
+// after the piece.
+pub type Collected = After<Result<Option<usize>, Refusal>, SliceConstructor>;
 
 // What a lane keeps of a message: whether it is whole, how long it then is or what it is charged
-// before, and what puts it together, which is blank once it is whole.
+// before, and what puts it together, which is blank once it is whole. No enum: the receivers write
+// all three into columns, whatever they are.
 #[derive(Clone, Copy)]
 pub struct Kept {
     pub whole: bool,
@@ -53,31 +52,20 @@ pub struct Kept {
     pub constructor: SliceConstructor,
 }
 
-// Whether a piece may be taken.
-#[derive(Clone, Copy)]
-enum Judged {
-    Good,
-    Refused(Refusal),
-}
-
 impl SliceConstructor {
     // Begins the reassembly of a message.
     pub fn new(message_id: MessageId, num_slices: u64) -> Begun
         ensures { BeginGives message_id.0 num_slices result }
     {
-        if LIMIT <= message_id.0 {
-            return SliceConstructor::refused(Refusal::BadNumber);
-        }
-        if num_slices == 0 {
-            return SliceConstructor::refused(Refusal::InvalidSliceMessage);
-        }
-        if (PIECES as u64) < num_slices {
-            return SliceConstructor::refused(Refusal::TooLong);
-        }
-        let state = SliceConstructor::empty(message_id, num_slices as usize);
-        Begun {
-            answer: Begin::Ready,
-            state,
+        match judge_new(message_id.0, num_slices) {
+            Ok(()) => After {
+                answer: Ok(()),
+                state: SliceConstructor::empty(message_id, num_slices as usize),
+            },
+            Err(e) => After {
+                answer: Err(e),
+                state: SliceConstructor::blank(),
+            },
         }
     }
 
@@ -104,29 +92,25 @@ impl SliceConstructor {
 
     // Takes a piece: its bytes go to its place in the lane, the first time that it comes.
     pub fn process_slice(self, slice_index: SliceIndex, bytes: &[u8], lane: &mut [u8]) -> Collected
-        requires { Valid self }
         ensures { CollectGives self slice_index.0 bytes.now lane.old lane.new result }
     {
         let i = slice_index.0;
-        let judged = self.judge(i, bytes.len(), lane.len());
-        match judged {
-            Judged::Refused(e) => Collected {
-                answer: Collect::Refused(e),
+        if let Err(e) = self.judge(i, bytes.len(), lane.len()) {
+            return After {
+                answer: Err(e),
                 state: self,
-            },
-            Judged::Good => {
-                let state = self.take(i as usize, bytes, lane);
-                Collected {
-                    answer: state.answer(),
-                    state,
-                }
-            }
+            };
+        }
+        let state = self.take(i as usize, bytes, lane);
+        After {
+            answer: Ok(state.answer()),
+            state,
         }
     }
 
     // The reassembly that a piece goes to: this one, or for a fresh message one of its own.
     pub fn start(self, fresh: bool, message_id: MessageId, num_slices: usize) -> SliceConstructor
-        requires { Valid (start_of self fresh message_id.0 num_slices) }
+        requires { fresh ≡ true → (message_id.0 < sizes.LIMIT) × (num_slices ≤ sizes.PIECES) }
         ensures { result ≡ start_of self fresh message_id.0 num_slices }
     {
         if fresh {
@@ -137,37 +121,26 @@ impl SliceConstructor {
 
     // What a lane keeps of it.
     pub fn keep(self) -> Kept
-        requires { Valid self × (0 < self.num_slices) }
+        requires { 0 < self.num_slices }
         ensures { result ≡ kept_of self }
     {
-        if self.num_received_slices == self.num_slices {
-            let constructor = SliceConstructor::blank();
-            return Kept {
+        match self.answer() {
+            Some(len) => Kept {
                 whole: true,
-                len: (self.num_slices - 1) * SLICE_SIZE + self.last_len,
-                constructor,
-            };
-        }
-        Kept {
-            whole: false,
-            len: SLICE_SIZE * self.num_slices,
-            constructor: self,
-        }
-    }
-
-    // A beginning that was refused; its state is blank.
-    fn refused(e: Refusal) -> Begun
-        ensures { (result.answer ≡ Begin.Refused e) × (result.state ≡ blank_of 0 0) }
-    {
-        let state = SliceConstructor::blank();
-        Begun {
-            answer: Begin::Refused(e),
-            state,
+                len,
+                constructor: SliceConstructor::blank(),
+            },
+            None => Kept {
+                whole: false,
+                len: SLICE_SIZE * self.num_slices,
+                constructor: self,
+            },
         }
     }
 
     // One of which no piece is here yet.
     fn empty(message_id: MessageId, num_slices: usize) -> SliceConstructor
+        requires { (message_id.0 < sizes.LIMIT) × (num_slices ≤ sizes.PIECES) }
         ensures { result ≡ blank_of message_id.0 num_slices }
     {
         SliceConstructor {
@@ -180,41 +153,38 @@ impl SliceConstructor {
     }
 
     // Whether n bytes are a right size for piece i.
-    fn is_sized(self, i: u64, n: usize) -> bool
-        requires { i < self.num_slices }
-        ensures { result ≡ sized self i n }
+    fn is_sized(&self, i: u64, n: usize) -> bool
+        requires { i < self.now.num_slices }
+        ensures { result ≡ sized self.now i n }
     {
-        if i + 1 == self.num_slices as u64 {
+        if self.num_slices as u64 == i + 1 {
             return n <= SLICE_SIZE;
         }
         n == SLICE_SIZE
     }
 
     // Whether a piece of n bytes may be taken, with room bytes lent for the message.
-    fn judge(self, i: u64, n: usize, room: usize) -> Judged
-        requires { Valid self }
-        ensures { judged_number result ≡ collect_refusal self i n room }
+    fn judge(&self, i: u64, n: usize, room: usize) -> Result<(), Refusal>
+        ensures { (judged_number result ≡ collect_refusal self.now i n room) × Valid self.now }
     {
         if room < self.num_slices * SLICE_SIZE {
-            return Judged::Refused(Refusal::BadStore);
+            return Err(Refusal::BadStore);
         }
         if self.num_slices as u64 <= i {
-            return Judged::Refused(Refusal::InvalidSliceMessage);
+            return Err(Refusal::InvalidSliceMessage);
         }
-        if self.is_sized(i, n) {
-            Judged::Good
-        } else {
-            Judged::Refused(Refusal::InvalidSliceMessage)
+        if !self.is_sized(i, n) {
+            return Err(Refusal::InvalidSliceMessage);
         }
+        Ok(())
     }
 
     // Takes a piece that was judged good; one that is here already is left as it is.
     fn take(mut self, i: usize, bytes: &[u8], lane: &mut [u8]) -> SliceConstructor
-        requires { Valid self × (collect_refusal self i (length bytes.now) (length lane.old) ≡ 0) }
+        requires { collect_refusal self i (length bytes.now) (length lane.old) ≡ 0 }
         ensures { (result ≡ taken self i (length bytes.now)) × (lane.new ≡ lane_taken self i bytes.now lane.old) }
     {
-        let here = self.received[i];
-        if here {
+        if self.received[i] {
             return self;
         }
         words::write_bytes(lane, i * SLICE_SIZE, bytes);
@@ -226,14 +196,30 @@ impl SliceConstructor {
         self
     }
 
-    // Whether the message is whole, and how long it then is.
-    fn answer(self) -> Collect
-        requires { Valid self × (0 < self.num_slices) }
-        ensures { collect_of result ≡ answer_of self }
+    // How long the message is, if it is whole.
+    fn answer(&self) -> Option<usize>
+        requires { 0 < self.now.num_slices }
+        ensures { collect_of (Ok result) ≡ answer_of self.now }
     {
         if self.num_received_slices == self.num_slices {
-            return Collect::Whole((self.num_slices - 1) * SLICE_SIZE + self.last_len);
+            return Some((self.num_slices - 1) * SLICE_SIZE + self.last_len);
         }
-        Collect::More
+        None
     }
+}
+
+// Whether a reassembly of so many pieces may be begun for a message with this id.
+fn judge_new(id: u64, num_slices: u64) -> Result<(), Refusal>
+    ensures { begin_number result ≡ begin_refusal id num_slices }
+{
+    if LIMIT <= id {
+        return Err(Refusal::BadNumber);
+    }
+    if num_slices == 0 {
+        return Err(Refusal::InvalidSliceMessage);
+    }
+    if (PIECES as u64) < num_slices {
+        return Err(Refusal::TooLong);
+    }
+    Ok(())
 }

@@ -1,6 +1,5 @@
 -- What the steps of the tour promise, by the definitions that the library's own promises cite. Assumes nothing.
 use Rattle.std.specs.Prelude.{ℕ, ◌≡◌}
-use Rattle.send_reliable.specs.Sender as s
 use Rattle.send_reliable.specs.Queue.{spot_of, state_at}
 use Rattle.send_reliable.specs.Ack.{After, ack_small, ack_piece}
 use Rattle.send_reliable.specs.declared.SendChannelReliable.{SendChannelReliable}
@@ -8,14 +7,8 @@ use Rattle.receive_reliable.specs.Receive as r
 use Rattle.receive_reliable.specs.declared.ReceiveChannelReliable.{ReceiveChannelReliable}
 use Rattle.tour.specs.declared.Ends.{Ends}
 
--- both ends are states that the library made
-pub record Ready (e : Ends) : Type 0 where
-  pub sender : s.Valid e.sender
-  pub receiver : r.Valid e.receiver
-
 -- a message of n bytes is queued, with stores of these lengths lent; the receiver knows nothing of it
 pub record Queues (e : Ends) (n small lanes : ℕ) (e' : Ends) : Type 0 where
-  pub ready : Ready e'
   pub sender : e'.sender ≡ state_at e.sender n (spot_of e.sender n small lanes)
   pub receiver : e'.receiver ≡ e.receiver
 
@@ -27,7 +20,6 @@ heard (r.refused e) acked sender = sender
 
 -- something arrives with this outcome, which leaves this receiver; `acked` is what the sender makes of its acknowledgement
 pub record Arrives (e : Ends) (o : r.Outcome) (after : ReceiveChannelReliable) (acked : After) (e' : Ends) : Type 0 where
-  pub ready : Ready e'
   pub sender : e'.sender ≡ heard o acked e.sender
   pub receiver : e'.receiver ≡ after
 

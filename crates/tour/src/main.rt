@@ -3,20 +3,20 @@
 //
 // Both ends stand in this one program, so that it reads from top to bottom; between two machines the
 // packets would go through a socket. States go into a call by value and come back beside its answer, and
-// all memory is the caller's. The library asks one thing of a caller: that a state is one that it made
-// (`Valid`). Every call promises that of the state it hands out, so nearly all of this is proved unasked.
+// all memory is the caller's. The library asks nothing of a caller: that a state is one that its calls
+// made stands in the state's type, so all of this is proved unasked.
 ghost use Rattle.std.specs.Prelude.{◌≡◌, length};
 ghost use Rattle.receive_reliable.specs.Receive as r;
-ghost use Rattle.tour.specs.Tour.{Ready, Queues, MessageArrives, PieceArrives};
+ghost use Rattle.tour.specs.Tour.{Queues, MessageArrives, PieceArrives};
 
 use channel::Settings;
-use pack::{Budget, Went, Written};
-use packet::{Decoded, Packet};
+use pack::{Budget, Written};
+use packet::Packet;
 use packet_ack::{RANGES, Range};
 use packet_slice::Slice;
-use receive_reliable::{Arrival, Look, ReceiveChannelReliable};
-use send_reliable::{Queue, SendChannelReliable};
-use words::{MessageId, SLICE_SIZE, Sequence};
+use receive_reliable::{Arrival, Message, ReceiveChannelReliable};
+use send_reliable::SendChannelReliable;
+use words::{MessageId, Refusal, SLICE_SIZE, Sequence};
 
 // Two small messages and a long one of two pieces may wait at each end.
 const SLOTS: usize = 2;
@@ -62,6 +62,13 @@ struct Ends {
     receiver: ReceiveChannelReliable,
 }
 
+// What an end is lent.
+#[derive(Drop)]
+struct Stores {
+    small: [u8; SMALL],
+    lanes: [u8; LANE],
+}
+
 // Both ends after a round, and what it wrote. That tells the number of the next packet, which the caller
 // keeps, since channels share the numbers.
 #[derive(Clone, Copy)]
@@ -71,100 +78,64 @@ struct Rounded {
 }
 
 fn main() {
-    let mut near_small = [0u8; SMALL];
-    let mut near_lanes = [0u8; LANE];
-    let mut far_small = [0u8; SMALL];
-    let mut far_lanes = [0u8; LANE];
-    let e = queue_both(start(), &mut near_small, &mut near_lanes);
-    let r = lossy(e, &near_small, &near_lanes, &mut far_small, &mut far_lanes);
-    let e = again(r, &near_small, &near_lanes, &mut far_small, &mut far_lanes);
+    let mut near = Stores::empty();
+    let mut far = Stores::empty();
+    let e = queue_both(start(), &mut near);
+    let r = lossy(e, &near, &mut far);
+    let e = again(r, &near, &mut far);
     say_usage(e);
 }
 
 // The first packet is lost. It had a piece of the first message, so nothing can come out yet.
-fn lossy(
-    e: Ends,
-    near_small: &[u8],
-    near_lanes: &[u8],
-    far_small: &mut [u8],
-    far_lanes: &mut [u8],
-) -> Rounded
-    requires { Ready e }
-    ensures { Ready result.ends }
-{
-    let first = Sequence(0);
-    let r = cross(e, first, 0, 1, near_small, near_lanes, far_small, far_lanes);
-    let written = r.written;
-    let ends = take(r.ends, far_small, far_lanes);
-    Rounded { ends, written }
+fn lossy(e: Ends, near: &Stores, far: &mut Stores) -> Rounded {
+    let r = cross(e, Sequence(0), 0, 1, near, far);
+    Rounded {
+        ends: take(r.ends, far),
+        written: r.written,
+    }
 }
 
 // After the resend time the missing piece goes again, and nothing else: both messages come out.
-fn again(
-    r: Rounded,
-    near_small: &[u8],
-    near_lanes: &[u8],
-    far_small: &mut [u8],
-    far_lanes: &mut [u8],
-) -> Ends
-    requires { Ready r.ends }
-    ensures { Ready result }
-{
+fn again(r: Rounded, near: &Stores, far: &mut Stores) -> Ends {
     let next = r.written.next_sequence;
-    let r = cross(
-        r.ends,
-        next,
-        RESEND_TIME,
-        0,
-        near_small,
-        near_lanes,
-        far_small,
-        far_lanes,
-    );
-    let e = take(r.ends, far_small, far_lanes);
-    take(e, far_small, far_lanes)
+    let r = cross(r.ends, next, RESEND_TIME, 0, near, far);
+    take(take(r.ends, far), far)
 }
 
 // Queues a message that goes in pieces, and a small one.
-fn queue_both(e: Ends, small: &mut [u8], lanes: &mut [u8]) -> Ends
-    requires { Ready e }
-    ensures { Ready result }
-{
+fn queue_both(e: Ends, near: &mut Stores) -> Ends {
     let mut long = [b'a'; LONG];
     long[SLICE_SIZE] = b'z';
-    let e = queue(e, &long, small, lanes);
-    queue(e, b"hello", small, lanes)
+    let e = queue(e, &long, near);
+    queue(e, b"hello", near)
 }
 
 // Sets both ends up, for channel 0. Settings outside their ranges would be refused (9).
-fn start() -> Ends
-    ensures { Ready result }
-{
+fn start() -> Ends {
     let settings = Settings {
         slots: SLOTS,
         lanes: LANES,
         pieces: PIECES,
         max_memory_usage_bytes: 10_000,
     };
-    let made = SendChannelReliable::new(0, settings, RESEND_TIME);
-    let sender = made.state;
-    let made = ReceiveChannelReliable::new(settings);
-    let receiver = made.state;
-    Ends { sender, receiver }
+    Ends {
+        sender: SendChannelReliable::new(0, settings, RESEND_TIME).state,
+        receiver: ReceiveChannelReliable::new(settings).state,
+    }
 }
 
 // Queues a message. Its bytes are copied to a store.
-fn queue(e: Ends, message: &[u8], small: &mut [u8], lanes: &mut [u8]) -> Ends
-    requires { Ready e }
-    ensures { Queues e (length message.now) (length small.old) (length lanes.old) result }
+fn queue(e: Ends, message: &[u8], near: &mut Stores) -> Ends
+    ensures { Queues e (length message.now) (length near.old.small) (length near.old.lanes) result }
 {
-    let sender = e.sender;
-    let queued = sender.send_message(message, small, lanes);
-    let answer = queued.answer;
-    say_queued(answer, message);
-    let sender = queued.state;
-    let receiver = e.receiver;
-    Ends { sender, receiver }
+    let queued = e
+        .sender
+        .send_message(message, &mut near.small, &mut near.lanes);
+    say_queued(queued.answer, message);
+    Ends {
+        sender: queued.state,
+        receiver: e.receiver,
+    }
 }
 
 // A round of the sender, whose packets reach the receiver from the k-th on.
@@ -173,36 +144,16 @@ fn cross(
     sequence: Sequence,
     current_time: u64,
     k: usize,
-    near_small: &[u8],
-    near_lanes: &[u8],
-    far_small: &mut [u8],
-    far_lanes: &mut [u8],
-) -> Rounded
-    requires { Ready e }
-    ensures { Ready result.ends }
-{
+    near: &Stores,
+    far: &mut Stores,
+) -> Rounded {
     let mut wire = [0u8; WIRE];
     let mut table = [0u64; TABLE];
-    let r = round(
-        e,
-        sequence,
-        current_time,
-        near_small,
-        near_lanes,
-        &mut wire,
-        &mut table,
-    );
-    let written = r.written;
-    let ends = deliver_from(
-        r.ends,
-        k,
-        written.packets,
-        &wire,
-        &table,
-        far_small,
-        far_lanes,
-    );
-    Rounded { ends, written }
+    let r = round(e, sequence, current_time, near, &mut wire, &mut table);
+    Rounded {
+        ends: deliver_from(r.ends, k, r.written.packets, &wire, &table, far),
+        written: r.written,
+    }
 }
 
 // The round: what is due goes, as far as an allowance of 5,000 bytes of messages reaches.
@@ -210,30 +161,24 @@ fn round(
     e: Ends,
     sequence: Sequence,
     current_time: u64,
-    small: &[u8],
-    lanes: &[u8],
+    near: &Stores,
     wire: &mut [u8],
     table: &mut [u64],
 ) -> Rounded
-    requires { Ready e }
-    ensures { Ready result.ends × (result.ends.receiver ≡ e.receiver) }
+    ensures { result.ends.receiver ≡ e.receiver }
 {
-    let sender = e.sender;
-    let round = sender.get_packets_to_send(
-        sequence,
-        current_time,
-        5_000,
-        small,
-        lanes,
-        wire,
-        table,
-    );
-    let sender = round.state;
-    let receiver = e.receiver;
-    let ends = Ends { sender, receiver };
-    let answer = round.answer;
-    let written = say_round(answer, sequence);
-    Rounded { ends, written }
+    let small = &near.small;
+    let lanes = &near.lanes;
+    let round = e
+        .sender
+        .get_packets_to_send(sequence, current_time, 5_000, small, lanes, wire, table);
+    Rounded {
+        ends: Ends {
+            sender: round.state,
+            receiver: e.receiver,
+        },
+        written: say_round(round.answer, sequence),
+    }
 }
 
 // Delivers packets from the k-th on.
@@ -243,41 +188,27 @@ fn deliver_from(
     packets: usize,
     wire: &[u8],
     table: &[u64; TABLE],
-    small: &mut [u8],
-    lanes: &mut [u8],
-) -> Ends
-    requires { Ready e }
-    ensures { Ready result }
-{
+    far: &mut Stores,
+) -> Ends {
     let mut ends = e;
-    let mut i = k;
-    while i < packets {
-        ends = deliver(ends, packet_at(wire, table, i), small, lanes);
-        i += 1;
+    for i in k..packets {
+        ends = deliver(ends, packet_at(wire, table, i), far);
     }
     ends
 }
 
 // Reads a packet and hands what is in it to the receiver. A program with more channels looks at the
 // packet's `channel_id` first.
-fn deliver(e: Ends, packet: &[u8], small: &mut [u8], lanes: &mut [u8]) -> Ends
-    requires { Ready e }
-    ensures { Ready result }
-{
+fn deliver(e: Ends, packet: &[u8], far: &mut Stores) -> Ends {
     let mut messages = [0u64; MESSAGE_TABLE];
-    let ranges = [Range { start: 0, end: 0 }; RANGES];
-    let decoded = packet::decode(packet, &mut messages, ranges, RANGES);
-    let answer = decoded.answer;
-    let Decoded::Whole(p, _) = answer else {
+    let mut ranges = [Range { start: 0, end: 0 }; RANGES];
+    let Ok((p, _)) = packet::from_bytes(packet, &mut messages, &mut ranges) else {
         return e;
     };
     say_packet(p);
     match p {
-        Packet::SmallReliable(p) => deliver_small(e, p.count, packet, &messages, small, lanes),
-        Packet::ReliableSlice(p) => {
-            let piece = part(packet, p.place, p.len);
-            deliver_piece(e, p, piece, small, lanes)
-        }
+        Packet::SmallReliable(p) => deliver_small(e, p.count, packet, &messages, far),
+        Packet::ReliableSlice(p) => deliver_piece(e, p, part(packet, p.place, p.len), far),
         _ => e,
     }
 }
@@ -288,81 +219,65 @@ fn deliver_small(
     count: usize,
     packet: &[u8],
     messages: &[u64; MESSAGE_TABLE],
-    small: &mut [u8],
-    lanes: &[u8],
-) -> Ends
-    requires { Ready e }
-    ensures { Ready result }
-{
+    far: &mut Stores,
+) -> Ends {
     let mut ends = e;
-    let mut i = 0;
-    while i < count {
+    for i in 0..count {
         let id = message_id_at(messages, i);
-        ends = deliver_message(ends, id, message_at(packet, messages, i), small, lanes);
-        i += 1;
+        ends = deliver_message(ends, id, message_at(packet, messages, i), far);
     }
     ends
 }
 
 // Delivers a small message; the sender hears of it if it was taken. Between two machines the numbers of
 // packets come back in an Ack packet, and the sender's side keeps which messages each packet had.
-fn deliver_message(e: Ends, id: MessageId, message: &[u8], small: &mut [u8], lanes: &[u8]) -> Ends
-    requires { Ready e }
-    ensures { MessageArrives e id.0 (length message.now) (length small.old) (length lanes.now) result }
+fn deliver_message(e: Ends, id: MessageId, message: &[u8], far: &mut Stores) -> Ends
+    ensures { MessageArrives e id.0 (length message.now) (length far.old.small) (length far.old.lanes) result }
 {
-    let receiver = e.receiver;
-    let arrived = receiver.process_message(id, message, small, lanes);
-    let answer = arrived.answer;
-    let receiver = arrived.state;
-    let sender = e.sender;
-    match answer {
-        Arrival::Taken => {
-            let acked = sender.process_message_ack(id);
-            let sender = acked.state;
-            Ends { sender, receiver }
-        }
-        Arrival::Ignored => Ends { sender, receiver },
-        Arrival::Refused(_) => Ends { sender, receiver },
+    let arrived = e
+        .receiver
+        .process_message(id, message, &mut far.small, &far.lanes);
+    let sender = match arrived.answer {
+        Ok(Arrival::Taken) => e.sender.process_message_ack(id).state,
+        _ => e.sender,
+    };
+    Ends {
+        sender,
+        receiver: arrived.state,
     }
 }
 
 // Delivers a piece of a long message, in the same way.
-fn deliver_piece(e: Ends, p: Slice, piece: &[u8], small: &[u8], lanes: &mut [u8]) -> Ends
-    requires { Ready e }
+fn deliver_piece(e: Ends, p: Slice, piece: &[u8], far: &mut Stores) -> Ends
     ensures { PieceArrives e p.message_id.0 p.num_slices p.slice_index.0
-        (length piece.now) (length small.now) (length lanes.old) result }
+        (length piece.now) (length far.old.small) (length far.old.lanes) result }
 {
-    let receiver = e.receiver;
     let id = p.message_id;
     let index = p.slice_index;
-    let arrived = receiver.process_slice(id, index, p.num_slices, piece, small, lanes);
-    let answer = arrived.answer;
-    let receiver = arrived.state;
-    let sender = e.sender;
-    match answer {
-        Arrival::Taken => {
-            let acked = sender.process_slice_message_ack(id, index);
-            let sender = acked.state;
-            Ends { sender, receiver }
-        }
-        Arrival::Ignored => Ends { sender, receiver },
-        Arrival::Refused(_) => Ends { sender, receiver },
+    let arrived = e
+        .receiver
+        .process_slice(id, index, p.num_slices, piece, &far.small, &mut far.lanes);
+    let sender = match arrived.answer {
+        Ok(Arrival::Taken) => e.sender.process_slice_message_ack(id, index).state,
+        _ => e.sender,
+    };
+    Ends {
+        sender,
+        receiver: arrived.state,
     }
 }
 
 // Takes the message that comes next, if it is here. Its bytes are a part of a store, so they are read
 // before the take, which frees their place.
-fn take<'a>(e: Ends, small: &'a [u8], lanes: &'a [u8]) -> Ends
-    requires { Ready e }
-    ensures { Ready result × (result.sender ≡ e.sender) × (result.receiver ≡ r.after_take e.receiver) }
+fn take(e: Ends, far: &Stores) -> Ends
+    ensures { (result.sender ≡ e.sender) × (result.receiver ≡ r.after_take e.receiver) }
 {
-    let receiver = e.receiver;
-    let look = receiver.look(small, lanes);
-    say_out(look, receiver.message(small, lanes));
-    let received = receiver.receive_message();
-    let receiver = received.state;
-    let sender = e.sender;
-    Ends { sender, receiver }
+    let look = e.receiver.look(&far.small, &far.lanes);
+    say_out(look, e.receiver.message(&far.small, &far.lanes));
+    Ends {
+        sender: e.sender,
+        receiver: e.receiver.receive_message().state,
+    }
 }
 
 // The i-th packet of a round.
@@ -393,14 +308,10 @@ fn message_id_at(messages: &[u64; MESSAGE_TABLE], i: usize) -> MessageId {
 
 // A part of some bytes; an empty one where there is no such part.
 fn part(bytes: &[u8], place: usize, len: usize) -> &[u8] {
-    if bytes.len() < place {
+    if bytes.len() < place || bytes.len() - place < len {
         return &bytes[..0];
     }
-    if bytes.len() - place < len {
-        return &bytes[..0];
-    }
-    let end = place + len;
-    &bytes[place..end]
+    &bytes[place..place + len]
 }
 
 fn text(s: &[u8]) {
@@ -419,10 +330,10 @@ fn say_message(s: &[u8], id: MessageId, message: &[u8]) {
     text(b"\n");
 }
 
-fn say_queued(answer: Queue, message: &[u8]) {
+fn say_queued(answer: Result<MessageId, Refusal>, message: &[u8]) {
     match answer {
-        Queue::Taken(id) => say_message(b"queued message ", id, message),
-        Queue::Refused(why) => say(b"refused: ", why.number() as u64),
+        Ok(id) => say_message(b"queued message ", id, message),
+        Err(why) => say(b"refused: ", why.number() as u64),
     }
 }
 
@@ -435,22 +346,22 @@ fn say_packet(p: Packet) {
     text(b"\n");
 }
 
-fn say_out(look: Look, message: &[u8]) {
+fn say_out(look: Result<Option<Message>, Refusal>, message: &[u8]) {
     match look {
-        Look::Message(id, _, _, _) => say_message(b"out comes message ", id, message),
+        Ok(Some(m)) => say_message(b"out comes message ", m.id, message),
         _ => text(b"nothing comes out yet\n"),
     }
 }
 
 // Says and tells what a round wrote; a refused one wrote nothing.
-fn say_round(answer: Went, sequence: Sequence) -> Written {
+fn say_round(answer: Result<Written, Refusal>, sequence: Sequence) -> Written {
     match answer {
-        Went::Sent(written) => {
+        Ok(written) => {
             say(b"a round of packets: ", written.packets as u64);
             text(b"\n");
             written
         }
-        Went::Refused(_) => Written {
+        Err(_) => Written {
             packets: 0,
             bytes: 0,
             next_sequence: sequence,
@@ -463,12 +374,20 @@ fn say_round(answer: Went, sequence: Sequence) -> Written {
 }
 
 // Says how many bytes wait at each end.
-fn say_usage(e: Ends)
-    requires { Ready e }
-{
-    let sender = e.sender;
-    let receiver = e.receiver;
-    say(b"bytes in use: sender ", sender.memory_usage_bytes() as u64);
-    say(b", receiver ", receiver.memory_usage_bytes() as u64);
+fn say_usage(e: Ends) {
+    say(
+        b"bytes in use: sender ",
+        e.sender.memory_usage_bytes() as u64,
+    );
+    say(b", receiver ", e.receiver.memory_usage_bytes() as u64);
     text(b"\n");
+}
+
+impl Stores {
+    fn empty() -> Stores {
+        Stores {
+            small: [0; SMALL],
+            lanes: [0; LANE],
+        }
+    }
 }

@@ -19,7 +19,7 @@ use Rattle.window.specs.Window.{ROWS, table, kept, since, next_of, Valid, queue_
 use Rattle.window.specs.Steps.{one_of, Bounded, plus, goes, waits, spot_by, judged, spot_of}
 use Rattle.window.specs.declared.Load.{Load}
 use Rattle.window.specs.declared.Window.{Window}
-use Rattle.window.specs.declared.Room.TheVariants.{Free, Refused}
+use Rattle.std.specs.Prelude.{Ok, Err}
 use Rattle.window.proofs.Valid.{allowed, room, valid-counted, counted_is}
 use Rattle.window.proofs.Loads.{load-snoc, total-drop}
 
@@ -113,12 +113,12 @@ module _ (w : Window) (oldest n : ℕ) where
   unfolding spot_of
   waiting k h = spot-waits (queue_refusal w oldest n) _ _ k h
 
-  pub left : Valid w → (e : Refusal) → waits (number_of e) ≡ spot_of w oldest n → QueuedGives w oldest n (record { answer = Refused e; state = w })
+  pub left : Valid w → (e : Refusal) → waits (number_of e) ≡ spot_of w oldest n → QueuedGives w oldest n (record { answer = Err e; state = w })
   unfolding after_queued
   left v e h = let q = waiting (number_of e) h in record { number = q; state = rw (← q, numbered-above e); valid = v }
 
   pub goes_on : Valid w → (gone : ℕ) (load : Load) (lens : List ℕ) → goes gone load ≡ spot_of w oldest n → lens ≡ table (drop gone (kept w))
-      → QueuedGives w oldest n (record { answer = Free; state = record { settings = w.settings; first = oldest; count = w.count - gone + 1; lens = set lens (w.count - gone) n; load = load } })
+      → QueuedGives w oldest n (record { answer = Ok tt; state = record { settings = w.settings; first = oldest; count = w.count - gone + 1; lens = set lens (w.count - gone) n; load = load } })
   unfolding spot_of after_queued
   goes_on v gone load lens h m =
       let p = spot-goes (queue_refusal w oldest n) _ _ gone load h in

@@ -11,21 +11,17 @@ use lib.Seq.{drop-drop, drop-append-le}
 use lib.Dec.{ltb, eqb}
 use Rattle.words.specs.Choice.{pick}
 use Rattle.words.specs.Lists.{total}
+use Rattle.words.specs.declared.Refusal.{Refusal}
 use Rattle.words.proofs.Tables.{by-test}
-use Rattle.words.proofs.Unique.{told-apart, refusal_of, refusal-undone, numbered-above}
 use Rattle.channel.specs.Settings.{Good}
 use Rattle.channel.specs.declared.Settings.{Settings}
-use Rattle.channel.specs.declared.Setup.{Setup}
 use Rattle.channel.proofs.Good.{good}
 use Rattle.channel.proofs.Unique.{one-setup}
 use Rattle.window.specs.Rule.{load_of}
-use Rattle.window.specs.Window.{window_of, since, next_of, Within, Valid, MadeGives, refusal_in, queue_refusal, room_number, counted, after_queued, QueuedGives}
+use Rattle.window.specs.Window.{Made, Counted, window_of, since, next_of, Within, Valid, MadeGives, refusal_in, queue_refusal, room_number, counted, after_queued, QueuedGives}
 use Rattle.window.specs.History.{Call, Past, refusal_after, counting, past_from, past, window_from, Exact}
 use Rattle.window.specs.declared.Window.{Window}
-use Rattle.window.specs.declared.Made.{Made}
-use Rattle.window.specs.declared.Room.{Room}
-use Rattle.window.specs.declared.Room.TheVariants.{Free, Refused}
-use Rattle.window.specs.declared.Counted.{Counted}
+use Rattle.std.specs.Prelude.{Result}
 use Rattle.window.proofs.Valid.{kept_of, within-rows, valid-new, allowed, valid-counted}
 
 -- ---- the answers are those of the rule: a window keeps the lengths of the messages from the oldest unacknowledged one on, of those that were named
@@ -119,25 +115,15 @@ refused-keeps w oldest n r g h = g.state ∙ rw (ne_eqb (queue_refusal w oldest 
 
 -- ---- one outcome only
 
-abbrev room_from : ℕ → Room
-room_from n = pick (eqb n 0) Free (Refused (refusal_of n))
-
-room-undone : (a : Room) → room_from (room_number a) ≡ a
-room-undone Free = refl
-room-undone (Refused e) = rw (numbered-above e) (ap Refused (refusal-undone e))
-
-same-room : (a b : Room) → room_number a ≡ room_number b → a ≡ b
-same-room = told-apart room_number room_from room-undone
-
 pub one-made : (s : Settings) (r q : Made) → MadeGives s r → MadeGives s q → r ≡ q
 one-made s r q x y =
-    ap (λ (a : Setup). record { answer = a; state = r.state }) (one-setup r.answer q.answer (x.number ∙ sym y.number))
+    ap (λ (a : Result (Unit {0}) Refusal). record { answer = a; state = r.state }) (one-setup r.answer q.answer (x.number ∙ sym y.number))
     ∙ ap (λ (w : Window). record { answer = q.answer; state = w }) (x.state ∙ sym y.state)
 
-pub one-room : (w : Window) (oldest n : ℕ) (a b : Room) → room_number a ≡ queue_refusal w oldest n → room_number b ≡ queue_refusal w oldest n → a ≡ b
-one-room w oldest n a b x y = same-room a b (x ∙ sym y)
+pub one-room : (w : Window) (oldest n : ℕ) (a b : Result (Unit {0}) Refusal) → room_number a ≡ queue_refusal w oldest n → room_number b ≡ queue_refusal w oldest n → a ≡ b
+one-room w oldest n a b x y = one-setup a b (x ∙ sym y)
 
 pub one-counted : (w : Window) (oldest n : ℕ) (r q : Counted) → QueuedGives w oldest n r → QueuedGives w oldest n q → r ≡ q
 one-counted w oldest n r q x y =
-    ap (λ (a : Room). record { answer = a; state = r.state }) (same-room r.answer q.answer (x.number ∙ sym y.number))
+    ap (λ (a : Result (Unit {0}) Refusal). record { answer = a; state = r.state }) (one-setup r.answer q.answer (x.number ∙ sym y.number))
     ∙ ap (λ (v : Window). record { answer = q.answer; state = v }) (x.state ∙ sym y.state)

@@ -7,12 +7,12 @@ use native.Mathlib.Nat.{zero-add}
 use native.Mathlib.Numerals.{add-one}
 use borrow.Author.Tests.{ltb-false, leb-false}
 use lib.ListN.{length, get_or, set, take, drop, replicate, length-append, length-drop, length-replicate}
-use lib.Seq.{drop-cons, get_or-take, get_or-drop, length-take-le}
+use lib.Seq.{drop-cons, get_or-take, length-take-le}
 use lib.Dec.{ltb, leb}
 use Rattle.words.specs.Sizes.{SLICE_SIZE, LIMIT}
 use Rattle.words.specs.Lists.{All, total, splice}
 use Rattle.words.proofs.Lists.{none-refused}
-use Rattle.words.proofs.Splice.{length-splice, splice-splice, copy_more}
+use Rattle.words.proofs.Splice.{length-splice, splice-splice}
 use Rattle.words.proofs.Tables.{part-here}
 use Rattle.channel.specs.Settings.{Good, SettledGives}
 use Rattle.channel.specs.declared.Settings.{Settings}
@@ -159,10 +159,3 @@ made s t w g e =
 module _ (lens : List ℕ) (from to : ℕ) (le : from ≤ to) (fits : to ≤ length lens) where
   pub length_part : length (drop from (take to lens)) ≡ to - from
   length_part = length-drop from (take to lens) ∙ ap (λ (k : ℕ). k - from) (length-take-le to lens fits)
-
-  pub moved_more : (moved : List ℕ) (i : ℕ) → i < to - from → moved ≡ splice 0 (take i (drop from (take to lens))) (replicate ROWS 0)
-      → set moved i (get_or lens (from + i) 0) ≡ splice 0 (take (i + 1) (drop from (take to lens))) (replicate ROWS 0)
-  moved_more moved i h e =
-      let g : get_or (drop from (take to lens)) i 0 ≡ get_or lens (from + i) 0 = get_or-drop from (take to lens) i 0 ∙ get_or-take to lens (from + i) 0 (omega arith) in
-      let l : i < length (drop from (take to lens)) = omega (arith, length_part) in
-      rw (zero-add, g) at (copy_more 0 (drop from (take to lens)) (replicate ROWS 0) moved i 0 l e)

@@ -1,3 +1,5 @@
+pub mod State
+pub mod Fields
 pub mod Rule
 pub mod Window
 pub mod Steps

@@ -1,15 +1,15 @@
 -- What the private functions promise. Assumes nothing.
-use Rattle.std.specs.Prelude.{ℕ, ◌+◌, ◌-◌, ◌≤◌, [], ◌∷◌, ◌++◌, eqb}
+use Rattle.std.specs.Prelude.{ℕ, ◌+◌, ◌-◌, ◌≤◌, [], ◌∷◌, ◌++◌, eqb, Result, Ok, Err}
 use Rattle.words.specs.Sizes.{LIMIT}
 use Rattle.words.specs.Choice.{pick, refusal}
 use Rattle.words.specs.Refusal.{number_of}
+use Rattle.words.specs.declared.Refusal.{Refusal}
 use Rattle.channel.specs.declared.Settings.{Settings}
 use Rattle.window.specs.Rule.{small_one, sliced_one, charge_of, load_of, rule_tests}
 use Rattle.window.specs.Window.{since, queue_refusal}
 use Rattle.window.specs.declared.Load.{Load}
 use Rattle.window.specs.declared.Window.{Window}
 use Rattle.window.specs.declared.Step.{Step}
-use Rattle.window.specs.declared.Step.TheVariants.{Goes, Waits}
 
 -- what one message takes
 abbrev pub one_of : ℕ → Load
@@ -36,9 +36,9 @@ pub data Spot : Type 0 where
   goes : ℕ → Load → Spot
   waits : ℕ → Spot
 
-abbrev pub step_of : Step → Spot
-step_of (Goes gone all) = goes gone all
-step_of (Waits e) = waits (number_of e)
+abbrev pub step_of : Result Step Refusal → Spot
+step_of (Ok step) = goes step.gone step.load
+step_of (Err e) = waits (number_of e)
 
 abbrev pub spot_by : ℕ → ℕ → Load → Spot
 spot_by number gone all = pick (eqb number 0) (goes gone all) (waits number)

@@ -1,18 +1,23 @@
 -- A window: the receiver's settings, and the lengths of the messages from a number on. Assumes nothing.
-use Rattle.std.specs.Prelude.{ℕ, ◌+◌, ◌-◌, ◌≤◌, ◌≡◌, List, [], ◌∷◌, ◌++◌, length, take, drop, replicate, ltb, leb, eqb}
+use Rattle.std.specs.Prelude.{ℕ, ◌+◌, ◌-◌, ◌≤◌, ◌≡◌, List, [], ◌∷◌, ◌++◌, length, take, drop, replicate, ltb, leb, eqb, Result, Ok, Err}
 use Rattle.words.specs.Sizes.{SLOTS, LANES, LIMIT}
 use Rattle.words.specs.Choice.{pick, refusal}
 use Rattle.words.specs.Lists.{splice}
 use Rattle.words.specs.Refusal.{number_of}
+use Rattle.words.specs.declared.Refusal.{Refusal}
+use Rattle.words.specs.declared.After.{After}
 use Rattle.channel.specs.Settings.{settings_refusal, setup_number, Good, least_settings}
 use Rattle.channel.specs.declared.Settings.{Settings}
 use Rattle.window.specs.Rule.{load_of, rule_tests}
 use Rattle.window.specs.declared.Load.{Load}
 use Rattle.window.specs.declared.Window.{Window}
-use Rattle.window.specs.declared.Made.{Made}
-use Rattle.window.specs.declared.Room.{Room}
-use Rattle.window.specs.declared.Room.TheVariants.{Free, Refused}
-use Rattle.window.specs.declared.Counted.{Counted}
+
+-- what the calls answer, and the window after them
+abbrev pub Made : Type 0
+Made = After (Result (Unit {0}) Refusal) Window
+
+abbrev pub Counted : Type 0
+Counted = After (Result (Unit {0}) Refusal) Window
 
 abbrev pub ROWS : ℕ
 ROWS = SLOTS + LANES
@@ -75,9 +80,9 @@ refusal_in s first next oldest lens n =
 unfoldable pub queue_refusal : Window → ℕ → ℕ → ℕ
 queue_refusal w oldest n = refusal_in w.settings w.first (next_of w) oldest (since w oldest) n
 
-abbrev pub room_number : Room → ℕ
-room_number Free = 0
-room_number (Refused e) = number_of e
+abbrev pub room_number : Result (Unit {0}) Refusal → ℕ
+room_number (Ok done) = 0
+room_number (Err e) = number_of e
 
 -- ---- counting a message: it is kept after those from the oldest unacknowledged one on. A refusal changes nothing
 

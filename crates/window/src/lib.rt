@@ -5,25 +5,23 @@
 ghost use Rattle.std.specs.Prelude.{◌≡◌, ◌≤◌, length, take, drop};
 ghost use Rattle.channel.specs.Settings.{Good};
 ghost use Rattle.window.specs.Rule.{load_of};
-ghost use Rattle.window.specs.Window.{ROWS, table, new_of, kept, Valid, MadeGives, room_number, queue_refusal, QueuedGives};
+ghost use Rattle.window.specs.Window.{ROWS, table, new_of, kept, MadeGives, room_number, queue_refusal, QueuedGives};
 ghost use Rattle.window.specs.Steps.{one_of, Bounded, plus, Holds, minus, step_of, judged, spot_of};
 
-use channel::{Settings, Setup};
-use words::{LANES, LIMIT, MessageId, Refusal, SLICE_SIZE, SLOTS};
-
-// Most messages that a receiver has room for.
-const ROWS: usize = SLOTS + LANES;
+use channel::{ROWS, Settings};
+use std::marker::Model;
+use words::{After, LIMIT, MessageId, Refusal, SLICE_SIZE};
 
 // What messages may take of a receiver: slots, lanes and memory.
-#[derive(Clone, Copy)]
+#[derive(Clone, Copy, Debug, PartialEq, Eq)]
 pub struct Load {
     small: usize,
     sliced: usize,
     charge: usize,
 }
 
-// The lengths of the messages from `first` on: `count` of them at the front of the table, and 0 past them. `load` is
-// what they may take.
+// The lengths of the messages from `first` on: `count` of them at the front of the table, and 0 past them (a count beside
+// a table, since all memory is fixed). `load` is what they may take.
 #[derive(Clone, Copy)]
 pub struct Window {
     settings: Settings,
@@ -33,33 +31,34 @@ pub struct Window {
     load: Load,
 }
 
-#[derive(Clone, Copy)]
-pub struct Made {
-    pub answer: Setup,
-    pub state: Window,
+// A contract sees its fields, of which `Valid` is always true.
+impl Model for Window {
+    ghost use Rattle.window.specs.State.{State};
+
+    ghost Value = { State };
+
+    ghost use Rattle.window.specs.Window.{Valid};
+    ghost use Rattle.window.specs.Fields.{state_of, fields_of};
+
+    ghost view = { state_of };
+
+    ghost invariant = { λ a. Valid (state_of a) };
+
+    ghost inverse = { fields_of };
 }
 
-// Whether there is room for a message. Its sender has to wait where the receiver might have to refuse one: 7 for
-// memory, 11 for a slot or a lane. A message above the receiver's piece limit never goes (12). 13 tells of an oldest
-// message above the next one, or below one that was named when a message was counted; no other wrong one is noticed.
-#[derive(Clone, Copy)]
-pub enum Room {
-    Free,
-    Refused(Refusal),
-}
+// Whether a window was set up, and the window.
+pub type Made = After<Result<(), Refusal>, Window>;
 
-#[derive(Clone, Copy)]
-pub struct Counted {
-    pub answer: Room,
-    pub state: Window,
-}
+// Whether a message was counted, and the window.
+pub type Counted = After<Result<(), Refusal>, Window>;
 
-// What the rule says of a message: how many of those kept are no longer under way, and what the others may take
-// together with it.
+// What the rule says of a message that may go: how many of those kept are no longer under way, and what the others may
+// take together with it.
 #[derive(Clone, Copy)]
-enum Step {
-    Goes(usize, Load),
-    Waits(Refusal),
+struct Step {
+    gone: usize,
+    load: Load,
 }
 
 impl Load {
@@ -106,24 +105,24 @@ impl Load {
 }
 
 // Whether a receiver of these settings has room for a message of this length beside others.
-fn judge(settings: Settings, gone: usize, others: Load, len: usize) -> Step
+fn judge(settings: Settings, gone: usize, others: Load, len: usize) -> Result<Step, Refusal>
     requires { Good settings × Bounded others }
     ensures { step_of result ≡ judged settings gone (plus others (one_of len)) len }
 {
     if settings.pieces * SLICE_SIZE < len {
-        return Step::Waits(Refusal::TooLong);
+        return Err(Refusal::TooLong);
     }
-    let all = others.plus(Load::of(len as u32));
-    if settings.max_memory_usage_bytes < all.charge {
-        return Step::Waits(Refusal::ReliableChannelMaxMemoryReached);
+    let load = others.plus(Load::of(len as u32));
+    if settings.max_memory_usage_bytes < load.charge {
+        return Err(Refusal::ReliableChannelMaxMemoryReached);
     }
-    if settings.slots < all.small {
-        return Step::Waits(Refusal::TableFull);
+    if settings.slots < load.small {
+        return Err(Refusal::TableFull);
     }
-    if settings.lanes < all.sliced {
-        return Step::Waits(Refusal::TableFull);
+    if settings.lanes < load.sliced {
+        return Err(Refusal::TableFull);
     }
-    Step::Goes(gone, all)
+    Ok(Step { gone, load })
 }
 
 // The lengths from one place up to another, at the front of a table.
@@ -132,12 +131,7 @@ fn moved_up(lens: [u32; ROWS], from: usize, to: usize) -> [u32; ROWS]
     ensures { result ≡ table (drop from (take to lens)) }
 {
     let mut moved = [0; ROWS];
-    let n = to - from;
-    let mut i = 0;
-    while i < n {
-        moved[i] = lens[from + i];
-        i += 1;
-    }
+    moved[..to - from].copy_from_slice(&lens[from..to]);
     moved
 }
 
@@ -147,54 +141,54 @@ impl Window {
         ensures { MadeGives settings result }
     {
         let settled = settings.settle();
-        let answer = settled.answer;
         let used = settled.settings;
-        let state = Window::empty(used);
-        Made { answer, state }
+        After {
+            answer: settled.answer,
+            state: Window::empty(used),
+        }
     }
 
-    // Whether a message of this length may be queued now, where `oldest` is the sender's oldest unacknowledged one.
-    pub fn can_queue(self, oldest: MessageId, len: usize) -> Room
-        requires { Valid self }
+    // Whether a message of this length may be queued now, where `oldest` is the sender's oldest unacknowledged one. Its
+    // sender has to wait where the receiver might have to refuse one: 7 for memory, 11 for a slot or a lane. A message
+    // above the receiver's piece limit never goes (12). 13 tells of an oldest message above the next one, or below one
+    // that was named when a message was counted; no other wrong one is noticed.
+    pub fn can_queue(self, oldest: MessageId, len: usize) -> Result<(), Refusal>
         ensures { room_number result ≡ queue_refusal self oldest.0 len }
     {
-        let step = self.step(oldest.0, len);
-        match step {
-            Step::Goes(_, _) => Room::Free,
-            Step::Waits(e) => Room::Refused(e),
-        }
+        self.step(oldest.0, len)?;
+        Ok(())
     }
 
     // Counts a message that was queued. Where it might not be, it isn't counted.
     pub fn queued(mut self, oldest: MessageId, len: usize) -> Counted
-        requires { Valid self }
         ensures { QueuedGives self oldest.0 len result }
     {
-        let step = self.step(oldest.0, len);
-        let mut answer = Room::Free;
-        match step {
-            Step::Waits(e) => {
-                answer = Room::Refused(e);
+        let step = match self.step(oldest.0, len) {
+            Ok(step) => step,
+            Err(e) => {
+                return After {
+                    answer: Err(e),
+                    state: self,
+                };
             }
-            Step::Goes(gone, load) => {
-                let count = self.count;
-                let left = count - gone;
-                let before = self.lens;
-                let mut lens = moved_up(before, gone, count);
-                lens[left] = len as u32;
-                self.first = oldest.0;
-                self.count = left + 1;
-                self.lens = lens;
-                self.load = load;
-            }
-        }
-        Counted {
-            answer,
+        };
+        let count = self.count;
+        let left = count - step.gone;
+        let before = self.lens;
+        let mut lens = moved_up(before, step.gone, count);
+        lens[left] = len as u32;
+        self.first = oldest.0;
+        self.count = left + 1;
+        self.lens = lens;
+        self.load = step.load;
+        After {
+            answer: Ok(()),
             state: self,
         }
     }
 
     fn empty(settings: Settings) -> Window
+        requires { Good settings }
         ensures { result ≡ new_of settings }
     {
         Window {
@@ -211,20 +205,19 @@ impl Window {
     }
 
     // What the rule says of a message. Counting starts at the oldest unacknowledged one.
-    fn step(self, oldest: u64, len: usize) -> Step
-        requires { Valid self }
-        ensures { step_of result ≡ spot_of self oldest len }
+    fn step(&self, oldest: u64, len: usize) -> Result<Step, Refusal>
+        ensures { step_of result ≡ spot_of self.now oldest len }
     {
         let first = self.first;
         let next = first + self.count as u64;
         if oldest < first {
-            return Step::Waits(Refusal::BadNumber);
+            return Err(Refusal::BadNumber);
         }
         if next < oldest {
-            return Step::Waits(Refusal::BadNumber);
+            return Err(Refusal::BadNumber);
         }
         if LIMIT <= next {
-            return Step::Waits(Refusal::BadNumber);
+            return Err(Refusal::BadNumber);
         }
         let gone = (oldest - first) as usize;
         let others = self.load_without(gone);
@@ -233,16 +226,13 @@ impl Window {
     }
 
     // What the messages that are kept may take, without the first ones.
-    fn load_without(self, gone: usize) -> Load
-        requires { Valid self × (gone ≤ self.count) }
-        ensures { result ≡ load_of (drop gone (kept self)) }
+    fn load_without(&self, gone: usize) -> Load
+        requires { gone ≤ self.now.count }
+        ensures { result ≡ load_of (drop gone (kept self.now)) }
     {
         let mut load = self.load;
-        let mut i = 0;
-        while i < gone {
-            let len = self.lens[i];
-            load = load.minus(Load::of(len));
-            i += 1;
+        for len in self.lens[..gone].iter() {
+            load = load.minus(Load::of(*len));
         }
         load
     }

@@ -1,11 +1,13 @@
 -- Laws of `splice`: two in a row, its length, its parts, one element more. Assumes nothing.
 use Prim.Native.Nat.{ℕ, suc, ◌+◌, ◌≤◌, ◌<◌}
-use mathlib.Core.Path.{◌≡◌, refl, ap, ◌∙◌}
+use mathlib.Core.Path.{◌≡◌, refl, sym, ap, ◌∙◌}
 use mathlib.Core.List.{List, [], ◌∷◌, ◌++◌}
 use native.Mathlib.Omega.{arith}
 use native.Mathlib.Nat.{add-zero, add-suc, suc-add}
 use native.Mathlib.Numerals.{add-one}
 use lib.ListN.{length, get_or, set, take, drop, length-set}
+use borrow.Rule.Slice.PartMut.{put_mid}
+use Rattle.std.proofs.lemmas.Slice.{put_mid-paste}
 use lib.Seq.{take-suc, take_all, sets, sets-eq, length-take-le, take-set-le, drop-set-lt}
 use Rattle.words.specs.Lists.{splice}
 
@@ -49,6 +51,13 @@ module _ {A : Type 0} where
   -- the whole, where it fits
   pub splice-eq : (at : ℕ) (bs s : List A) → at + length bs ≤ length s → splice at bs s ≡ take at s ++ bs ++ drop (at + length bs) s
   splice-eq at bs s h = as-sets at bs s ∙ sets-eq bs s at h
+
+  -- a part that is written over
+  pub put_mid-splice : (at k : ℕ) (s ys bs : List A) → ys ≡ bs → k ≡ length bs → at + length bs ≤ length s → put_mid at k s ys ≡ splice at bs s
+  put_mid-splice at k s ys bs e n h =
+      put_mid-paste at k s ys bs (length bs) e (sym n) refl
+      ∙ ap (λ (l : List A). take at s ++ l ++ drop (at + length bs) s) (take_all (length bs) bs (omega arith))
+      ∙ sym (splice-eq at bs s h)
 
   -- a loop that copies: before the first turn, after each, and at the end
   pub copy-none : (at : ℕ) (src s : List A) → s ≡ splice at (take 0 src) s

@@ -30,21 +30,21 @@ pub const MAX_MESSAGES: usize = 65_535;
 pub const LIMIT: u64 = 1 << 62;
 
 // The number of a packet.
-#[derive(Clone, Copy)]
+#[derive(Clone, Copy, Debug, PartialEq, Eq, PartialOrd, Ord)]
 pub struct Sequence(pub u64);
 
 // The number of a message.
-#[derive(Clone, Copy)]
+#[derive(Clone, Copy, Debug, PartialEq, Eq, PartialOrd, Ord)]
 pub struct MessageId(pub u64);
 
 // The place of a piece in its message.
-#[derive(Clone, Copy)]
+#[derive(Clone, Copy, Debug, PartialEq, Eq, PartialOrd, Ord)]
 pub struct SliceIndex(pub u64);
 
 // Why a call did nothing. The names of 1 to 8 are renet's.
-#[derive(Clone, Copy)]
+#[derive(Clone, Copy, Debug, PartialEq, Eq)]
 pub enum Refusal {
-    BufferTooShort,
+    BufferTooShort = 1,
     InvalidNumSlices,
     SliceSizeAboveLimit,
     EmptySlice,
@@ -55,7 +55,7 @@ pub enum Refusal {
     BadSettings,
     BadStore,
     TableFull,
-    TooLong,
+    TooLong = 12,
     BadNumber,
     ClockBack,
     NoRoom,
@@ -68,26 +68,15 @@ impl Refusal {
     pub fn number(self) -> u8
         ensures { result ≡ number_of self }
     {
-        match self {
-            Refusal::BufferTooShort => 1,
-            Refusal::InvalidNumSlices => 2,
-            Refusal::SliceSizeAboveLimit => 3,
-            Refusal::EmptySlice => 4,
-            Refusal::InvalidAckRange => 5,
-            Refusal::InvalidPacketType => 6,
-            Refusal::ReliableChannelMaxMemoryReached => 7,
-            Refusal::InvalidSliceMessage => 8,
-            Refusal::BadSettings => 9,
-            Refusal::BadStore => 10,
-            Refusal::TableFull => 11,
-            Refusal::TooLong => 12,
-            Refusal::BadNumber => 13,
-            Refusal::ClockBack => 14,
-            Refusal::NoRoom => 15,
-            Refusal::WrongKind => 16,
-            Refusal::BadIndex => 17,
-        }
+        self as u8
     }
+}
+
+// What a call answers, and the state after it.
+#[derive(Clone, Copy)]
+pub struct After<A, S> {
+    pub answer: A,
+    pub state: S,
 }
 
 // Copies all of src to a place with room for it, and answers the place after it.
@@ -95,12 +84,9 @@ pub fn write_bytes(out: &mut [u8], at: usize, src: &[u8]) -> usize
     requires { at + length src.now ≤ length out.old }
     ensures { (result ≡ at + length src.now) × (out.new ≡ splice at src.now out.old) }
 {
-    let mut i = 0;
-    while i < src.len() {
-        out[at + i] = src[i];
-        i += 1;
-    }
-    at + i
+    let end = at + src.len();
+    out[at..end].copy_from_slice(src);
+    end
 }
 
 // The lowest index below n at which nothing is held, or n.
@@ -108,14 +94,10 @@ pub fn lowest_free(held: &[bool], n: usize) -> usize
     requires { n ≤ length held.now }
     ensures { result ≡ lowest_free_of held.now n }
 {
-    let mut i = 0;
-    while i < n {
-        let taken = held[i];
-        if taken {
-            i += 1;
-        } else {
+    for i in 0..n {
+        if !held[i] {
             return i;
         }
     }
-    i
+    n
 }

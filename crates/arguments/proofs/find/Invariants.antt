@@ -7,6 +7,3 @@ use Rattle.arguments.proofs.find.Given as goal
 
 abbrev pub invariant-loop-k : goal.invariant-loop-k
 invariant-loop-k l = found_from (length l.calls - l.k) l.calls l.name l.at l.k ≡ found l.calls l.name
-
-abbrev pub decreases-loop-k : goal.decreases-loop-k
-decreases-loop-k l = length l.calls - l.k

@@ -1,27 +1,18 @@
--- `bench_calls::rr_received` meets its contract: each turn is one message more in the receiver. Assumes nothing.
-use mathlib.Core.Path.{refl}
-use native.Mathlib.Omega.{arith}
-use Rattle.bench_calls.proofs.Laws.{begins, goes_on, ends, left}
+-- `bench_calls::rr_received` meets its contract: each step is one message more in the receiver. Assumes nothing.
+use mathlib.Core.Path.{◌≡◌, refl}
+use Rattle.std.proofs.Common.{rules}
+use Rattle.receive_reliable.specs.Receive.{Arrived, MessageGives}
+use Rattle.bench_calls.specs.Times.{held}
+use Rattle.bench_calls.proofs.Laws.{carried-at, left, left-by}
 use Rattle.bench_calls.proofs.rr_received.Goals as goal
-
-pub new-made-requires : goal.new-made-requires
-new-made-requires c = tt
-
-pub loop-i-init : goal.loop-i-init
-loop-i-init c = begins (record { small-long = refl; lanes-long = refl; valid = c.new-made.ensures.valid })
-
-pub process_message-arrived-requires : goal.process_message-arrived-requires
-process_message-arrived-requires c = c.loop-i.invariant.keeps.valid
-
-pub loop-i-preserved : goal.loop-i-preserved
-loop-i-preserved c =
-    let call = c.process_message-arrived in
-    goes_on c.loop-i.invariant (omega arith)
-    (record { small-long = omega arith; lanes-long = refl; valid = call.ensures.valid })
-    (left call.result call.ensures, refl)
 
 pub returns : goal.returns
 returns c =
     let made = c.new-made in
-    let turns = c.loop-i.invariant in
-    (record { new = made.result.state; made = left made.result made.ensures; fills = ends turns (omega arith) }, turns.keeps.valid)
+    let fills =
+    carried-at (λ s m. held s m c.args.lanes.now)
+    (λ k s t m m' p.
+    let called : (r : Arrived) × MessageGives s.now k c.args.message.now m.now c.args.lanes.now m'.now r × (t.now ≡ r.state) = search rules in
+    (left-by called, refl))
+    c.times_at.ensures in
+    record { new = made.result.state; made = left made.result made.ensures; fills = fills }

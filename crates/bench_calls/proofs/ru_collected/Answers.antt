@@ -1,27 +1,18 @@
--- `bench_calls::ru_collected` meets its contract: each turn is one piece more in the receiver. Assumes nothing.
-use mathlib.Core.Path.{refl}
-use native.Mathlib.Omega.{arith}
-use Rattle.bench_calls.proofs.Laws.{begins, goes_on, ends, left}
+-- `bench_calls::ru_collected` meets its contract: each step is one piece more in the receiver. Assumes nothing.
+use mathlib.Core.Path.{◌≡◌, refl}
+use Rattle.std.proofs.Common.{rules}
+use Rattle.receive_unreliable.specs.Receive.{Arrived, SliceGives}
+use Rattle.bench_calls.specs.Times.{held}
+use Rattle.bench_calls.proofs.Laws.{carried-at, left, left-by}
 use Rattle.bench_calls.proofs.ru_collected.Goals as goal
-
-pub new-made-requires : goal.new-made-requires
-new-made-requires c = tt
-
-pub loop-i-init : goal.loop-i-init
-loop-i-init c = begins (record { small-long = refl; lanes-long = refl; valid = c.new-made.ensures.valid })
-
-pub process_slice-arrived-requires : goal.process_slice-arrived-requires
-process_slice-arrived-requires c = c.loop-i.invariant.keeps.valid
-
-pub loop-i-preserved : goal.loop-i-preserved
-loop-i-preserved c =
-    let call = c.process_slice-arrived in
-    goes_on c.loop-i.invariant (omega arith)
-    (record { small-long = refl; lanes-long = omega arith; valid = call.ensures.valid })
-    (left call.result call.ensures, refl)
 
 pub returns : goal.returns
 returns c =
     let made = c.new-made in
-    let turns = c.loop-i.invariant in
-    (record { new = made.result.state; made = left made.result made.ensures; fills = ends turns (omega arith) }, turns.keeps.valid)
+    let fills =
+    carried-at (λ s m. held s c.args.small.now m)
+    (λ k s t m m' p.
+    let called : (r : Arrived) × SliceGives s.now 0 c.args.count k c.args.payload.now 0 c.args.small.now m.now m'.now r × (t.now ≡ r.state) = search rules in
+    (left-by called, refl))
+    c.times_at.ensures in
+    record { new = made.result.state; made = left made.result made.ensures; fills = fills }

@@ -1,18 +1,7 @@
--- `bench_calls::sr_acked` meets its contract: each turn is one ack. Assumes nothing.
-use native.Mathlib.Omega.{arith}
-use Rattle.bench_calls.proofs.Laws.{begins, goes_on, ends, left}
+-- `bench_calls::sr_acked` meets its contract: each step is an ack. Assumes nothing.
+use Rattle.std.proofs.Common.{rules}
+use Rattle.bench_calls.proofs.Laws.{carried, left-by}
 use Rattle.bench_calls.proofs.sr_acked.Goals as goal
 
-pub loop-i-init : goal.loop-i-init
-loop-i-init c = begins c.requires
-
-pub process_message_ack-acked-requires : goal.process_message_ack-acked-requires
-process_message_ack-acked-requires c = c.loop-i.invariant.keeps
-
-pub loop-i-preserved : goal.loop-i-preserved
-loop-i-preserved c =
-    let call = c.process_message_ack-acked in
-    goes_on c.loop-i.invariant (omega arith) call.ensures.valid (left call.result call.ensures)
-
 pub returns : goal.returns
-returns c = (ends c.loop-i.invariant (omega arith), c.loop-i.invariant.keeps)
+returns c = carried (λ k s t p. left-by (search rules)) c.times.ensures

@@ -1,23 +1,19 @@
 -- `bench_calls::sr_sent` meets its contract: each turn is one round. Assumes nothing.
-use mathlib.Core.Path.{refl}
+use mathlib.Core.Path.{◌≡◌, refl}
 use native.Mathlib.Omega.{arith}
-use Rattle.bench_calls.proofs.Laws.{begins, goes_on, ends}
+use native.Mathlib.Numerals.{add-one}
+use Rattle.bench_calls.specs.Times.{none, more}
 use Rattle.bench_calls.proofs.sr_sent.Goals as goal
 
-pub loop-i-init : goal.loop-i-init
-loop-i-init c = begins (record { out-long = refl; table-long = refl; valid = c.requires })
+pub loop-init : goal.loop-init
+loop-init c = (none, refl, refl)
 
-pub get_packets_to_send-round-requires : goal.get_packets_to_send-round-requires
-get_packets_to_send-round-requires c = c.loop-i.invariant.keeps.valid
-
-pub packets_of-packets-requires : goal.packets_of-packets-requires
-packets_of-packets-requires c = tt
-
-pub loop-i-preserved : goal.loop-i-preserved
-loop-i-preserved c =
-    goes_on c.loop-i.invariant (omega arith)
-    (record { out-long = omega arith; table-long = omega arith; valid = c.get_packets_to_send-round.ensures.valid })
-    (record { round = c.get_packets_to_send-round.result; gives = c.get_packets_to_send-round.ensures; state = refl; packets = c.packets_of-packets.ensures })
+pub loop-preserved : goal.loop-preserved
+loop-preserved c =
+    let round = c.get_packets_to_send-round in
+    (rw add-one (more c.loop.invariant.0 (record { round = round.result; gives = round.ensures; state = refl; packets = c.packets_of-packets.ensures })), omega arith, omega arith)
 
 pub returns : goal.returns
-returns c = record { rest = c.loop-i.state; rounds-sent = ends c.loop-i.invariant (omega arith) }
+returns c =
+    let all : c.args.rounds ≡ c.loop.counter = omega arith in
+    record { rest = c.loop.state; rounds-sent = rw all c.loop.invariant.0 }

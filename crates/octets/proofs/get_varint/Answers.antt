@@ -26,5 +26,5 @@ returns-then-room-lt8 c = search short-8
 
 pub returns : goal.returns
 returns c =
-    let b = c.shared_slice_known-2-1.given c.args.at in
+    let b = c.type_inv.s c.args.at in
     whole-8 _ _ c.if-s-at.false c.u32_at-high.ensures.0 c.u32_at-2.ensures.0 (omega arith) (omega (arith, b)) (omega arith)

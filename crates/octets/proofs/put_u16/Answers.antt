@@ -4,11 +4,8 @@ use mathlib.Core.Path.{refl}
 use Rattle.octets.proofs.Write.{bytes-no-room, bytes-to}
 use Rattle.octets.proofs.put_u16.Goals as goal
 
-pub returns-then-out-at : goal.returns-then-out-at
-returns-then-out-at c = (bytes-no-room _ _ _ (omega arith), refl)
-
-pub returns-then-out-at-lt2 : goal.returns-then-out-at-lt2
-returns-then-out-at-lt2 c = (bytes-no-room _ _ _ (omega arith), refl)
+pub returns-then-saturating_sub-lt2 : goal.returns-then-saturating_sub-lt2
+returns-then-saturating_sub-lt2 c = (bytes-no-room _ _ _ (omega arith), refl)
 
 pub returns : goal.returns
 returns c =

@@ -11,7 +11,7 @@ pub write_item-at-requires : goal.write_item-at-requires
 write_item-at-requires c =
     let l = c.loop-i in
     let h = c.loop-i-test.true in
-    record { i_in_bounds = omega arith; all = all_first _ _ _ h _ l.invariant.1; i_in_bounds_2 = omega (arith, room _ _ _ h _ _ _ l.invariant.2) }
+    record { all = all_first _ _ _ h _ l.invariant.1; in_bounds = omega (arith, room _ _ _ h _ _ _ l.invariant.2) }
 
 pub loop-i-preserved : goal.loop-i-preserved
 loop-i-preserved c =

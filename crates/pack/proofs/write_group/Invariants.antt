@@ -9,10 +9,9 @@ use Rattle.pack.specs.Pack.{items_in}
 use Rattle.pack.proofs.write_group.Given as goal
 
 abbrev pub invariant-loop-i : goal.invariant-loop-i
-invariant-loop-i l = (length l.out ≡ length l.initial.out)
-    × All (Sendable l.small) (smalls (items_in l.items l.i (l.end - l.i)))
-    × (l.at + length (items_bytes l.ids l.small (items_in l.items l.i (l.end - l.i))) ≡ l.from + length (items_bytes l.ids l.small (items_in l.items l.first (l.end - l.first))))
-    × (splice l.at (items_bytes l.ids l.small (items_in l.items l.i (l.end - l.i))) l.out ≡ splice l.from (items_bytes l.ids l.small (items_in l.items l.first (l.end - l.first))) l.initial.out)
-
-abbrev pub decreases-loop-i : goal.decreases-loop-i
-decreases-loop-i l = l.end - l.i
+invariant-loop-i l =
+    let n = l.lent in
+    (length l.out ≡ length l.initial.out)
+    × All (Sendable n.small.now) (smalls (items_in l.items l.i (l.end - l.i)))
+    × (l.at + length (items_bytes n.ids n.small.now (items_in l.items l.i (l.end - l.i))) ≡ l.from + length (items_bytes n.ids n.small.now (items_in l.items l.first (l.end - l.first))))
+    × (splice l.at (items_bytes n.ids n.small.now (items_in l.items l.i (l.end - l.i))) l.out ≡ splice l.from (items_bytes n.ids n.small.now (items_in l.items l.first (l.end - l.first))) l.initial.out)

@@ -1,12 +1,13 @@
--- `packet::decode` meets its contract: what is found fills the table. Assumes nothing.
+-- `packet::decode` meets its contract: the first records of the table are lent. Assumes nothing.
 use native.Mathlib.Omega.{arith}
-use Rattle.packet.proofs.Parts.{lent-within, read-gives}
+use borrow.Author.Rules.{rules}
+use lib.ListN.{length}
+use mathlib.Core.Path.{◌≡◌}
+use Rattle.packet_ack.specs.Ack.{RANGES}
+use Rattle.packet.proofs.Parts.{lent-is, read-gives}
 use Rattle.packet.proofs.decode.Goals as goal
 
-pub fill_table-table-requires : goal.fill_table-table-requires
-fill_table-table-requires c =
-    let l = lent-within c.args.room in
-    omega (arith, c.find-f.ensures.within, c.lent.ensures)
-
 pub returns : goal.returns
-returns c = read-gives _ _ _ _ c.args.room _ c.find-f.result c.lent.ensures c.find-f.ensures c.fill_table-table.ensures
+returns c =
+    let k : length c.args.ranges ≡ RANGES = search rules in
+    read-gives _ _ _ c.args.room _ (lent-is c.args.room c.min-n.ensures) (omega arith) c.from_bytes-answer.ensures

@@ -1,30 +1,23 @@
--- `packet::to_bytes` meets its contract: the ranges are judged, and written in two parts. Assumes nothing.
-use native.Mathlib.Omega.{arith}
-use mathlib.Core.Path.{refl, sym, subst, ◌∙◌}
-use lib.ListN.{length}
-use Rattle.packet_ack.specs.Steps.{Writable}
-use Rattle.packet.proofs.Parts.{named-within, judged-all}
+-- `packet::to_bytes` meets its contract: each arm writes as its kind. Assumes nothing.
+use Rattle.packet.specs.Write.{encoded, bytes_of}
 use Rattle.packet.proofs.to_bytes.Goals as goal
 
-pub judge_ranges-j-requires : goal.judge_ranges-j-requires
-judge_ranges-j-requires c = omega (arith, c.ranges_named-n.ensures, named-within c.args.packet (length c.args.ranges.now))
+pub returns-in-SmallReliable : goal.returns-in-SmallReliable
+unfolding encoded bytes_of
+returns-in-SmallReliable c = simp c.in-SmallReliable.is c.put_small.ensures
 
-pub put-f-requires : goal.put-f-requires
-put-f-requires c =
-    record {
-      table = c.args.ranges.now;
-      holds = refl;
-      judged = judged-all c.args.packet c.args.ranges.now (length c.args.out.now) c.ranges_named-n.ensures c.unjudged-from.ensures c.judge_ranges-j.ensures;
-    }
+pub returns-in-SmallUnreliable : goal.returns-in-SmallUnreliable
+unfolding encoded bytes_of
+returns-in-SmallUnreliable c = simp c.in-SmallUnreliable.is c.put_small-in-SmallUnreliable.ensures
 
-pub write_ranges-requires : goal.write_ranges-requires
-write_ranges-requires c =
-    let j = judged-all c.args.packet c.args.ranges.now (length c.args.out.now) c.ranges_named-n.ensures c.unjudged-from.ensures c.judge_ranges-j.ensures in
-    let p = c.put-f.ensures c.args.ranges.now refl j in
-    subst (Writable c.args.ranges.now c.put-f.result.left c.put-f.result.pen) (sym c.put-f.auto.out) p.writable
+pub returns-in-ReliableSlice : goal.returns-in-ReliableSlice
+unfolding encoded bytes_of
+returns-in-ReliableSlice c = simp c.in-ReliableSlice.is c.put_slice.ensures
 
-pub returns : goal.returns
-returns c =
-    let j = judged-all c.args.packet c.args.ranges.now (length c.args.out.now) c.ranges_named-n.ensures c.unjudged-from.ensures c.judge_ranges-j.ensures in
-    let p = c.put-f.ensures c.args.ranges.now refl j in
-    (p.answer, c.write_ranges.ensures ∙ p.wrote)
+pub returns-in-UnreliableSlice : goal.returns-in-UnreliableSlice
+unfolding encoded bytes_of
+returns-in-UnreliableSlice c = simp c.in-UnreliableSlice.is c.put_slice-in-UnreliableSlice.ensures
+
+pub returns-in-Ack : goal.returns-in-Ack
+unfolding encoded bytes_of
+returns-in-Ack c = simp c.in-Ack.is c.put_ack.ensures

@@ -2,8 +2,8 @@
 use mathlib.Core.Path.{◌∙◌}
 use Rattle.packet_ack.proofs.judge_range.Goals as goal
 
-pub returns-then-first : goal.returns-then-first
-returns-then-first c = c.judge_highest.ensures ∙ simp c.if-first.true
+pub returns-in-None : goal.returns-in-None
+returns-in-None c = c.judge_highest.ensures ∙ simp c.in-None.is
 
-pub returns : goal.returns
-returns c = c.judge_lower.ensures ∙ simp c.if-first.false
+pub returns-in-Some : goal.returns-in-Some
+returns-in-Some c = c.judge_lower.ensures ∙ simp c.in-Some.is

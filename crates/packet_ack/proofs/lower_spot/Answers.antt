@@ -1,9 +1,7 @@
 -- `packet_ack::lower_spot` meets its contract. Assumes nothing.
-use Rattle.packet_ack.proofs.Fill.{spot-refused, spot-whole}
+use mathlib.Core.Path.{◌∙◌}
+use Rattle.packet_ack.proofs.Fill.{spot-below}
 use Rattle.packet_ack.proofs.lower_spot.Goals as goal
 
-pub returns-in-Refused : goal.returns-in-Refused
-returns-in-Refused c = search spot-refused
-
-pub returns-in-Whole : goal.returns-in-Whole
-returns-in-Whole c = search spot-whole
+pub returns : goal.returns
+returns c = c.unwrap_or.ensures ∙ spot-below _ _ _ c.read_lower.ensures

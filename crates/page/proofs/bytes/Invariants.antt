@@ -1,11 +1,12 @@
 -- `page::bytes` meets its contract: what is left, from the index on, gives what the whole gives. Assumes nothing.
-use mathlib.Core.Path.{◌≡◌}
-use lib.ListN.{length, drop}
-use Rattle.page.specs.Page.{sheet, spelt_from, spelt}
+use Prim.Native.Nat.{◌-◌}
+use lib.ListN.{length}
+use Rattle.page.specs.Page.{sheet, spelt}
+use Rattle.page.proofs.Sheets.{Spells}
 use Rattle.page.proofs.bytes.Given as goal
 
-abbrev pub invariant-loop-left : goal.invariant-loop-left
-invariant-loop-left l = (length l.page ≡ length l.initial.page) × (spelt_from l.left l.before (drop l.i l.s) (sheet l.page l.a) ≡ spelt l.s (sheet l.initial.page l.at))
+abbrev pub invariant-loop-i : goal.invariant-loop-i
+invariant-loop-i l = Spells l.s l.i l.before (sheet l.page l.a) (spelt l.s (sheet l.initial.page l.at))
 
-abbrev pub decreases-loop-left : goal.decreases-loop-left
-decreases-loop-left l = l.left
+abbrev pub decreases-loop-i : goal.decreases-loop-i
+decreases-loop-i l = length l.s - l.i

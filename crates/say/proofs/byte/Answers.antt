@@ -6,5 +6,5 @@ use Rattle.say.proofs.byte.Goals as goal
 pub returns : goal.returns
 returns c =
     says-as _ _ _ _ _ _
-    (byte-is _ c.hex-k.result _ c.ranges.b.fits c.hex-k.ensures.len c.hex-k.ensures.digits)
+    (byte-is c.args.b c.hex-k.result _ c.ranges.b.fits (rw c.from.ensures at c.hex-k.ensures.len) (rw c.from.ensures at c.hex-k.ensures.digits))
     c.text.ensures

@@ -1,17 +1,8 @@
--- `say::digest_words` meets its contract. The loop's invariant: the digest of the words that were passed. Assumes nothing.
-use mathlib.Core.Path.{refl}
-use native.Mathlib.Omega.{arith}
-use Rattle.say.proofs.Digest.{digest-start, digest-more, digest-all}
+-- `say::digest_words` meets its contract. Assumes nothing.
+use mathlib.Core.Path.{ap, ◌∙◌}
+use Rattle.std.proofs.lemmas.List.{map-id}
+use Rattle.say.specs.Digest.{digest_of}
 use Rattle.say.proofs.digest_words.Goals as goal
 
-pub loop-i-init : goal.loop-i-init
-loop-i-init c = (omega arith, omega arith, digest-start c.args.t.now)
-
-pub mix-h-requires : goal.mix-h-requires
-mix-h-requires c = c.loop-i.invariant.1
-
-pub loop-i-preserved : goal.loop-i-preserved
-loop-i-preserved c = (omega arith, c.mix-h.ensures.1, digest-more _ _ _ _ _ c.loop-i-test.true c.loop-i.invariant.2 refl c.mix-h.ensures.0)
-
 pub returns : goal.returns
-returns c = digest-all _ _ _ c.loop-i-test.false c.loop-i.invariant.2
+returns c = c.digest.ensures (λ x. x) (λ x v e. e) ∙ ap digest_of (map-id c.args.t.now)

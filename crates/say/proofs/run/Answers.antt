@@ -7,20 +7,11 @@ use Rattle.say.specs.Spelled.{runs}
 use Rattle.say.proofs.Spelling.{runs_on, runs-stop, runs-end}
 use Rattle.say.proofs.run.Goals as goal
 
-pub bounds-s-from : goal.bounds-s-from
-bounds-s-from c = c.requires
-
-pub loop-i-init : goal.loop-i-init
-loop-i-init c = (omega arith, omega (arith, c.requires), omega arith)
-
 pub returns-then-s-i : goal.returns-then-s-i
-returns-then-s-i c = omega (arith, c.loop-i.invariant.2, runs-stop c.args.s.now c.args.up c.loop-i.b c.loop-i.i c.loop-i-test.true c.if-s-i.true)
-
-pub follow-b-requires : goal.follow-b-requires
-follow-b-requires c = tt
+returns-then-s-i c = omega (arith, c.loop-i.invariant, runs-stop c.args.s.now c.args.up c.loop-i.b c.loop-i.i c.loop-i-test.true c.if-s-i.true)
 
 pub loop-i-preserved : goal.loop-i-preserved
-loop-i-preserved c = (omega arith, omega arith, omega (arith, c.loop-i.invariant.2, runs_on c.args.s.now c.args.up c.loop-i.b c.loop-i.i c.loop-i-test.true c.if-s-i.false, ap (λ (x : ℕ). runs c.args.up x (drop (c.loop-i.i + 1) c.args.s.now)) c.follow-b.ensures))
+loop-i-preserved c = omega (arith, c.loop-i.invariant, runs_on c.args.s.now c.args.up c.loop-i.b c.loop-i.i c.loop-i-test.true c.if-s-i.false, ap (λ (x : ℕ). runs c.args.up x (drop (c.loop-i.i + 1) c.args.s.now)) c.follow-b.ensures)
 
 pub returns : goal.returns
-returns c = omega (arith, c.loop-i.invariant.2, runs-end c.args.s.now c.args.up c.loop-i.b c.loop-i.i c.loop-i-test.false)
+returns c = omega (arith, c.requires, c.loop-i.invariant, runs-end c.args.s.now c.args.up c.loop-i.b c.loop-i.i c.loop-i-test.false)

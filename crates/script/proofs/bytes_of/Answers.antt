@@ -1,46 +1,34 @@
 -- `script::bytes_of` meets its contract. The loop's invariant: what is left of the parts, from here, gives what the whole gives. Assumes nothing.
-use mathlib.Core.Path.{refl, sym, ◌∙◌}
+use mathlib.Core.Path.{sym, ◌∙◌}
 use native.Mathlib.Omega.{arith}
-use Rattle.script.proofs.Parts.{come-none, come-start, come-on, come-fits, come-off, come-end, part-starts, part-ends}
+use borrow.Author.Tests.{tests}
+use lib.Dec.{eqb}
+use Rattle.std.proofs.Common.{rules}
+use Rattle.std.proofs.lemmas.Result.{err_from_is_err_and}
+use Rattle.std.proofs.lemmas.Iterator.Splits.{YieldsList-from_slice_split}
+use Rattle.script.proofs.Parts.{come-none, come-start, split-is, ahead-on, ahead-off, ahead-end}
 use Rattle.script.proofs.bytes_of.Goals as goal
 
 pub returns-then-is : goal.returns-then-is
 returns-then-is c = come-none _ _ (sym c.is.ensures ∙ c.if-is.true)
 
-pub loop-from-init : goal.loop-from-init
-loop-from-init c = (refl, omega arith, come-start _ _ (sym c.is.ensures ∙ c.if-is.false))
+pub loop-word-init : goal.loop-word-init
+loop-word-init c = record {
+  parts = _;
+  yields = rw (c.into_iter-word-iterator.ensures.into_iter_gives, ← split-is c.args.text.now) (YieldsList-from_slice_split _ (λ x. eqb x 46) c.args.text.now c.split-word-items.ensures.rest c.split-word-items.ensures.done c.split-word-items.ensures.closure (λ x b q k. search (rules, tests)));
+  come = come-start _ _ (sym c.is.ensures ∙ c.if-is.false);
+}
 
-pub until-end-requires : goal.until-end-requires
-until-end-requires c = tt
+pub part-requires : goal.part-requires
+part-requires c = omega (arith, c.loop-word.invariant.come.fits, c.loop-word.invariant.come.kept)
 
-pub slice_bounds-part-count : goal.slice_bounds-part-count
-slice_bounds-part-count c = omega (arith, part-starts _ _ _ c.loop-from-test.true c.until-end.ensures)
+pub returns-in_err-at : goal.returns-in_err-at
+returns-in_err-at c =
+    let p = err_from_is_err_and c.from_residual.result c.from_residual.ensures.1 in
+    rw (p.1, p.2) (ahead-off _ _ c.next.new.self _ _ _ _ c.in-Some.word (rw c.in-Some.is at c.next.ensures.steps) _ _ c.loop-word.invariant (rw c.in_err-at.was at c.part.ensures))
 
-pub slice_bounds-part-start : goal.slice_bounds-part-start
-slice_bounds-part-start c = part-starts _ _ _ c.loop-from-test.true c.until-end.ensures
-
-pub slice_bounds-part-end : goal.slice_bounds-part-end
-slice_bounds-part-end c = part-ends _ _ _ c.loop-from-test.true c.until-end.ensures
-
-pub part-p-requires : goal.part-p-requires
-part-p-requires c = omega (arith, c.loop-from.invariant.0, c.loop-from.invariant.1)
-
-pub returns-in_default : goal.returns-in_default
-returns-in_default c = come-off _ _ _ _ _ _ c.loop-from.invariant.2 _ c.loop-from-test.true c.until-end.ensures _ c.loop-from.invariant.0 _ c.part-p.ensures c.in_default.not-To
-
-pub overflow_add-from : goal.overflow_add-from
-overflow_add-from c = omega (arith, part-ends _ _ _ c.loop-from-test.true c.until-end.ensures)
-
-pub loop-from-smaller : goal.loop-from-smaller
-loop-from-smaller c = omega (arith, c.loop-from-test.true, part-starts _ _ _ c.loop-from-test.true c.until-end.ensures)
-
-pub loop-from-preserved : goal.loop-from-preserved
-loop-from-preserved c =
-    let a = rw c.in-To.is at c.part-p.ensures in
-    (c.out-1.given ∙ c.loop-from.invariant.0, come-fits _ _ _ _ _ _ c.loop-from.invariant.2 _ c.loop-from-test.true c.until-end.ensures _ c.loop-from.invariant.0 _ a, come-on _ _ _ _ _ _ c.loop-from.invariant.2 _ c.loop-from-test.true c.until-end.ensures _ c.loop-from.invariant.0 _ a)
-
-pub shape_of-out : goal.shape_of-out
-shape_of-out c = c.loop-from.invariant.0
+pub loop-word-preserved : goal.loop-word-preserved
+loop-word-preserved c = ahead-on _ _ c.next.new.self _ _ _ _ c.in-Some.word (rw c.in-Some.is at c.next.ensures.steps) _ _ c.loop-word.invariant c.part.auto.out (rw c.in_ok-at.was at c.part.ensures)
 
 pub returns : goal.returns
-returns c = come-end _ _ _ _ _ _ c.loop-from.invariant.2 c.loop-from-test.false
+returns c = ahead-end _ _ c.next.new.self _ _ _ _ c.loop-word.invariant (rw c.in-None.is at c.next.ensures.steps)

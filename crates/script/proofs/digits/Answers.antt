@@ -1,23 +1,40 @@
 -- `script::digits` meets its contract. The loop's invariant: the digits that are left, behind what those before stand for, give what the whole gives. Assumes nothing.
-use Prim.Native.Nat.{◌+◌}
-use mathlib.Core.Path.{sym, ap, ◌∙◌}
+use mathlib.Core.Path.{refl, sym, ◌∙◌}
 use native.Mathlib.Omega.{arith}
-use lib.ListN.{get_or, drop}
-use Rattle.script.specs.declared.Number.{Number}
-use Rattle.script.proofs.Numbers.{rest, rest-none, rest_all, rest_more, rest-done, small-grown}
+use borrow.Author.Tests.{eqb-true, eqb-false}
+use Rattle.std.proofs.lemmas.Result.{err_from_is_err_and}
+use Rattle.script.specs.Numbers.{digit}
+use Rattle.script.proofs.Words.{all_at}
+use Rattle.script.proofs.Numbers.{digits-none, digits-not, digits-all, digits-step, digits-over, digits-done, below-ok}
 use Rattle.script.proofs.digits.Goals as goal
+use Rattle.script.proofs.digits.Goals.{then-is_empty-via-then-is_empty, then-is_empty-via-else-is_empty+then-not-all_digits}
 
-pub returns-then-s-eq0 : goal.returns-then-s-eq0
-returns-then-s-eq0 c = rest-none _ c.if-s-eq0.true
+pub returns-then-is_empty : goal.returns-then-is_empty
+returns-then-is_empty c =
+    elim c.then-is_empty.branch [
+      | then-is_empty-via-then-is_empty w ↦ digits-none _ (eqb-true _ _ (sym c.is_empty.ensures ∙ w.if-is_empty.true))
+      | then-is_empty-via-else-is_empty+then-not-all_digits w ↦ digits-not _ (sym w.all_digits.ensures ∙ w.if-not-all_digits.true)
+    ]
 
-pub loop-i-init : goal.loop-i-init
-loop-i-init c = (omega arith, rest_all _ c.if-s-eq0.false, omega arith)
+pub loop-c-init : goal.loop-c-init
+loop-c-init c = record {
+  gives = refl;
+  small = omega arith;
+  whole = digits-all _ (eqb-false _ _ (sym c.is_empty.ensures ∙ c.if-is_empty.false)) (sym c.all_digits.ensures ∙ c.if-not-all_digits.false);
+}
 
-pub grow-n-requires : goal.grow-n-requires
-grow-n-requires c = tt
+pub grow-requires : goal.grow-requires
+grow-requires c = all_at digit _ _ (sym c.all_digits.ensures ∙ c.if-not-all_digits.false) c.loop-c-test.true
 
-pub loop-i-preserved : goal.loop-i-preserved
-loop-i-preserved c = (omega arith, c.loop-i.invariant.1 ∙ rest_more _ _ _ c.loop-i-test.true ∙ sym (ap (λ (m : Number). rest m (drop (c.loop-i.i + 1) c.args.s.now)) c.grow-n.ensures), small-grown c.loop-i.n _ (get_or c.args.s.now c.loop-i.i 0) c.grow-n.ensures)
+pub returns-in_err-v : goal.returns-in_err-v
+returns-in_err-v c =
+    let p = err_from_is_err_and c.from_residual.result c.from_residual.ensures.1 in
+    rw (p.1, p.2) (digits-over _ _ _ c.loop-c.invariant.gives _ (sym c.in_err-v.was ∙ c.grow.ensures) c.loop-c-test.true ∙ c.loop-c.invariant.whole)
+
+pub loop-c-preserved : goal.loop-c-preserved
+loop-c-preserved c =
+    let v : _ = below-ok _ _ (sym c.in_ok-v.was ∙ c.grow.ensures) in
+    record { gives = rw v.0 (digits-step _ _ _ c.loop-c.invariant.gives c.loop-c-test.true); small = v.1; whole = c.loop-c.invariant.whole }
 
 pub returns : goal.returns
-returns c = rest-done _ _ _ c.loop-i-test.false c.loop-i.invariant.2 ∙ sym c.loop-i.invariant.1
+returns c = digits-done _ _ _ c.loop-c.invariant.gives c.loop-c-test.false c.loop-c.invariant.small ∙ c.loop-c.invariant.whole

@@ -1,15 +1,17 @@
 -- `script::number_of` meets its contract. Assumes nothing.
+use native.Mathlib.Omega.{arith}
+use borrow.Author.Tests.{ltb-true, ltb-false}
 use Rattle.script.proofs.Numbers.{number_short, number-first, number-second, number-power}
 use Rattle.script.proofs.number_of.Goals as goal
+use Rattle.script.proofs.number_of.Goals.{in_default-via-then-text-lt2, in_default-via-else-text-lt2+in-50+in_default-1, in_default-via-else-text-lt2+in_default-1}
 
-pub returns-then-text-lt2 : goal.returns-then-text-lt2
-returns-then-text-lt2 c = number_short _ _ c.digits.ensures c.if-text-lt2.true
+pub returns-in-50 : goal.returns-in-50
+returns-in-50 c = number-power _ _ c.in-50.len_at_least (omega arith) (omega arith) c.power.ensures
 
-pub returns-then-text-ne50 : goal.returns-then-text-ne50
-returns-then-text-ne50 c = number-first _ _ c.digits-then-text-ne50.ensures c.if-text-lt2.false c.if-text-ne50.true
-
-pub returns-then-text-ne94 : goal.returns-then-text-ne94
-returns-then-text-ne94 c = number-second _ _ c.digits-then-text-ne94.ensures c.if-text-lt2.false c.if-text-ne50.false c.if-text-ne94.true
-
-pub returns : goal.returns
-returns c = number-power _ _ c.if-text-lt2.false c.if-text-ne50.false c.if-text-ne94.false c.power.ensures
+pub returns-in_default : goal.returns-in_default
+returns-in_default c =
+    elim c.in_default.branch [
+      | in_default-via-then-text-lt2 w ↦ number_short _ _ c.digits.ensures (omega (arith, ltb-true))
+      | in_default-via-else-text-lt2+in-50+in_default-1 w ↦ number-second _ _ c.digits.ensures (omega (arith, ltb-false)) (omega arith) (omega arith)
+      | in_default-via-else-text-lt2+in_default-1 w ↦ number-first _ _ c.digits.ensures (omega (arith, ltb-false)) (omega arith)
+    ]

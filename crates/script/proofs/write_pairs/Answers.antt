@@ -1,34 +1,21 @@
 -- `script::write_pairs` meets its contract. The loop's invariant: what is left to set down, from here, gives what the whole gives. Assumes nothing.
 use native.Mathlib.Omega.{arith}
-use Rattle.script.proofs.Parts.{paired-start, paired-two, paired-fits, paired-more, paired-end, hex-here, hex-next}
+use Rattle.script.specs.Bytes.{hex}
+use Rattle.script.proofs.Words.{all_at}
+use Rattle.script.proofs.Parts.{paired-start, paired-more, paired-end, length_pairs}
 use Rattle.script.proofs.write_pairs.Goals as goal
 
 pub loop-i-init : goal.loop-i-init
-loop-i-init c = paired-start _ _ _ c.requires
-
-pub overflow_add-i : goal.overflow_add-i
-overflow_add-i c = omega (arith, paired-two _ _ _ _ _ _ c.loop-i.invariant c.loop-i-test.true)
-
-pub bounds-s-i-in-loop-i : goal.bounds-s-i-in-loop-i
-bounds-s-i-in-loop-i c = paired-two _ _ _ _ _ _ c.loop-i.invariant c.loop-i-test.true
+loop-i-init c = paired-start _ _ _
 
 pub pair-requires : goal.pair-requires
-pair-requires c = (hex-here _ _ (paired-two _ _ _ _ _ _ c.loop-i.invariant c.loop-i-test.true) c.loop-i.invariant.digits, hex-next _ _ (paired-two _ _ _ _ _ _ c.loop-i.invariant c.loop-i-test.true) c.loop-i.invariant.digits)
+pair-requires c = (all_at hex _ _ c.requires.1 (omega arith), all_at hex _ _ c.requires.1 (omega arith))
 
-pub bounds-out-to : goal.bounds-out-to
-bounds-out-to c = paired-fits _ _ _ _ _ _ c.loop-i.invariant c.loop-i-test.true
-
-pub overflow_add-to : goal.overflow_add-to
-overflow_add-to c = omega (arith, paired-fits _ _ _ _ _ _ c.loop-i.invariant c.loop-i-test.true, c.loop-i.invariant.kept)
-
-pub overflow_add-i-in-loop-i : goal.overflow_add-i-in-loop-i
-overflow_add-i-in-loop-i c = omega (arith, paired-two _ _ _ _ _ _ c.loop-i.invariant c.loop-i-test.true)
+pub bounds-out-at : goal.bounds-out-at
+bounds-out-at c = omega (arith, c.requires.2, length_pairs c.args.s.now)
 
 pub loop-i-preserved : goal.loop-i-preserved
-loop-i-preserved c = paired-more _ _ _ _ _ _ c.loop-i.invariant c.loop-i-test.true _ c.pair.ensures
-
-pub shape_of-out : goal.shape_of-out
-shape_of-out c = c.loop-i.invariant.kept
+loop-i-preserved c = paired-more _ _ _ _ _ c.loop-i.invariant _ c.loop-i-test.true c.pair.ensures
 
 pub returns : goal.returns
-returns c = paired-end _ _ _ _ _ _ c.loop-i.invariant c.loop-i-test.false
+returns c = (omega (arith, length_pairs c.args.s.now), paired-end _ _ _ _ _ c.loop-i.invariant (omega (arith, c.requires.0)))

@@ -1,32 +1,26 @@
--- `send_reliable::write_range` meets its contract. The loop's invariant: the visits from the first piece to the i-th are written. Assumes nothing.
-use Prim.Native.Nat.{◌+◌, ◌*◌, ◌-◌, ◌≤◌}
+-- `send_reliable::write_range` meets its contract. The loop's invariant: the visits up to the piece are written. Assumes nothing.
+use Prim.Native.Nat.{◌-◌, ◌<◌}
 use mathlib.Core.Path.{◌≡◌, refl, ap, ◌∙◌}
 use mathlib.Core.List.{◌++◌}
 use native.Mathlib.Omega.{arith}
-use lib.ListN.{length, length-set}
+use lib.ListN.{length, take, length-set}
 use Rattle.send_reliable.specs.Select.{up_from}
-use Rattle.send_reliable.specs.RoundSteps.{VISIT, visits_in}
 use Rattle.send_reliable.proofs.Visits.{range_none, range-turn}
 use Rattle.send_reliable.proofs.write_range.Goals as goal
 
-pub loop-i-init : goal.loop-i-init
-loop-i-init c =
-    let a = c.args in
-    (omega arith, omega arith, omega arith, refl, range_none a.visits.now a.n a.k a.from)
+pub loop-piece-init : goal.loop-piece-init
+loop-piece-init c = let a = c.args in (omega arith, refl, range_none a.visits.now a.n a.row a.from)
 
-pub bounds-visits-m-in-loop-i : goal.bounds-visits-m-in-loop-i
-bounds-visits-m-in-loop-i c = simp length-set (omega arith)
-
-pub loop-i-preserved : goal.loop-i-preserved
-loop-i-preserved c =
-    let l = c.loop-i in
+pub loop-piece-preserved : goal.loop-piece-preserved
+loop-piece-preserved c =
+    let l = c.loop-piece in
     let a = c.args in
-    let room : VISIT * (l.m + 1) ≤ length l.visits = omega arith in
-    (omega arith, omega arith, omega arith, simp length-set l.invariant.3, range-turn a.visits.now l.visits a.n l.m a.k a.from l.i l.invariant.0 room l.invariant.4)
+    let room : l.m < length l.visits = omega arith in
+    (omega arith, simp length-set l.invariant.1, range-turn a.visits.now l.visits a.n l.m a.row a.from l.piece l.auto.piece room l.invariant.2)
 
 pub returns : goal.returns
 returns c =
-    let l = c.loop-i in
+    let l = c.loop-piece in
     let a = c.args in
-    let e : l.i ≡ a.to = omega arith in
-    (omega arith, l.invariant.4 ∙ ap (λ i. visits_in a.visits.now a.n ++ up_from a.k a.from (i - a.from)) e)
+    let e : l.piece ≡ a.to = omega arith in
+    (omega arith, l.invariant.2 ∙ ap (λ i. take a.n a.visits.now ++ up_from a.row a.from (i - a.from)) e)

@@ -1,14 +1,10 @@
--- `send_reliable::write_range` meets its contract. The loop's invariant: the visits from the first piece to the i-th are written. Assumes nothing.
-use Prim.Native.Nat.{◌+◌, ◌-◌, ◌≤◌}
+-- `send_reliable::write_range` meets its contract. The loop's invariant: the visits up to the piece are written. Assumes nothing.
+use Prim.Native.Nat.{◌+◌, ◌-◌}
 use mathlib.Core.Path.{◌≡◌}
 use mathlib.Core.List.{◌++◌}
-use lib.ListN.{length}
+use lib.ListN.{length, take}
 use Rattle.send_reliable.specs.Select.{up_from}
-use Rattle.send_reliable.specs.RoundSteps.{visits_in}
 use Rattle.send_reliable.proofs.write_range.Given as goal
 
-abbrev pub invariant-loop-i : goal.invariant-loop-i
-invariant-loop-i l = (l.from ≤ l.i) × (l.i ≤ l.to) × (l.m ≡ l.n + (l.i - l.from)) × (length l.visits ≡ length l.initial.visits) × (visits_in l.visits l.m ≡ visits_in l.initial.visits l.n ++ up_from l.k l.from (l.i - l.from))
-
-abbrev pub decreases-loop-i : goal.decreases-loop-i
-decreases-loop-i l = l.to - l.i
+abbrev pub invariant-loop-piece : goal.invariant-loop-piece
+invariant-loop-piece l = (l.m ≡ l.n + (l.piece - l.from)) × (length l.visits ≡ length l.initial.visits) × (take l.m l.visits ≡ take l.n l.initial.visits ++ up_from l.row l.from (l.piece - l.from))

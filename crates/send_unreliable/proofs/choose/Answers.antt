@@ -9,8 +9,11 @@ use Rattle.send_unreliable.proofs.choose.Goals as goal
 pub returns-then-left-n : goal.returns-then-left-n
 returns-then-left-n c = sym (small-passed _ _ _ (le-leb _ _ c.if-n-le-SLICE_SIZE.true) c.if-left-n.true)
 
-pub put_item-requires : goal.put_item-requires
-put_item-requires c = omega (arith, (cell_room _ _ _ _ c.requires.good c.requires.room c.if-n-le-SLICE_SIZE.true).1, c.requires.in_bounds)
+pub offset_bounds-items-k : goal.offset_bounds-items-k
+offset_bounds-items-k c = omega (arith, (cell_room _ _ _ _ c.requires.good c.requires.room c.if-n-le-SLICE_SIZE.true).1)
+
+pub bounds-items-k : goal.bounds-items-k
+bounds-items-k c = omega (arith, (cell_room _ _ _ _ c.requires.good c.requires.room c.if-n-le-SLICE_SIZE.true).1, c.requires.in_bounds)
 
 pub overflow_add-chosen-then-n-le-SLICE_SIZE : goal.overflow_add-chosen-then-n-le-SLICE_SIZE
 overflow_add-chosen-then-n-le-SLICE_SIZE c = omega (arith, (cell_room _ _ _ _ c.requires.good c.requires.room c.if-n-le-SLICE_SIZE.true).1)
@@ -18,7 +21,7 @@ overflow_add-chosen-then-n-le-SLICE_SIZE c = omega (arith, (cell_room _ _ _ _ c.
 pub returns-then-n-le-SLICE_SIZE : goal.returns-then-n-le-SLICE_SIZE
 returns-then-n-le-SLICE_SIZE c =
     let r = (cell_room _ _ _ _ c.requires.good c.requires.room c.if-n-le-SLICE_SIZE.true).1 in
-    put_small _ _ _ _ c.if-n-le-SLICE_SIZE.true c.if-left-n.false (omega (arith, c.requires.in_bounds)) _ c.put_item.ensures
+    put_small _ _ _ _ c.if-n-le-SLICE_SIZE.true c.if-left-n.false (omega (arith, c.requires.in_bounds))
 
 pub returns-then-left-n-2 : goal.returns-then-left-n-2
 returns-then-left-n-2 c = sym (sliced-passed _ _ _ (lt-leb _ _ c.if-n-le-SLICE_SIZE.false) c.if-left-n-2.true)

@@ -2,6 +2,7 @@
 use mathlib.Core.Path.{refl, ◌∙◌}
 use native.Mathlib.Nat.{add-zero, sub-zero}
 use native.Mathlib.Omega.{arith}
+use lib.ListN.{length-set}
 use Rattle.send_unreliable.proofs.Chosen.{put-turn, put_all}
 use Rattle.send_unreliable.proofs.put_slices.Goals as goal
 
@@ -9,17 +10,17 @@ pub num_slices-num-requires : goal.num_slices-num-requires
 num_slices-num-requires c = c.requires.len_bound
 
 pub loop-i-init : goal.loop-i-init
-loop-i-init c = (omega arith, refl, rw (add-zero, sub-zero))
+loop-i-init c = (refl, rw (add-zero, sub-zero))
 
-pub slice_len-size-requires : goal.slice_len-size-requires
-slice_len-size-requires c = record { len_bound = c.requires.len_bound; i_bound = omega (arith, c.num_slices-num.ensures) }
+pub slice_len-requires : goal.slice_len-requires
+slice_len-requires c = record { len_bound = c.requires.len_bound; i_bound = omega (arith, c.num_slices-num.ensures) }
 
 pub loop-i-preserved : goal.loop-i-preserved
 loop-i-preserved c =
     let n = c.num_slices-num.ensures in
-    (omega arith, omega arith, put-turn _ _ _ _ _ _ _ _ _ n c.slice_len-size.ensures (omega arith) (omega arith) c.put_item.ensures ∙ c.loop-i.invariant.2)
+    (simp length-set c.loop-i.invariant.0, put-turn _ _ _ _ _ _ _ _ n c.slice_len.ensures (omega arith) (omega arith) ∙ c.loop-i.invariant.1)
 
 pub returns : goal.returns
 returns c =
     let n = c.num_slices-num.ensures in
-    (omega arith, put_all _ _ _ _ _ _ _ n c.loop-i.invariant.0 c.loop-i-test.false ∙ c.loop-i.invariant.2)
+    (omega arith, put_all _ _ _ _ _ _ _ n c.loop-i.auto.i-end c.loop-i-test.false ∙ c.loop-i.invariant.1)

@@ -1,5 +1,4 @@
 -- `send_unreliable::put_slices` meets its contract. The loop's invariant: the items so far and the pieces to come are what is asked. Assumes nothing.
-use Prim.Native.Nat.{◌≤◌, ◌-◌}
 use mathlib.Core.Path.{◌≡◌}
 use mathlib.Core.List.{◌++◌}
 use lib.ListN.{length}
@@ -10,7 +9,4 @@ use Rattle.send_unreliable.proofs.Chosen.{put_from}
 use Rattle.send_unreliable.proofs.put_slices.Given as goal
 
 abbrev pub invariant-loop-i : goal.invariant-loop-i
-invariant-loop-i l = (l.i ≤ l.num) × (length l.items ≡ length l.initial.items) × (put_from l.id l.len l.place l.first l.items l.i ≡ items_in l.initial.items 0 l.first ++ pieces_from l.id l.len l.place 0 (pieces_of l.len))
-
-abbrev pub decreases-loop-i : goal.decreases-loop-i
-decreases-loop-i l = l.num - l.i
+invariant-loop-i l = (length l.items ≡ length l.initial.items) × (put_from l.id l.len l.place l.first l.items l.i ≡ items_in l.initial.items 0 l.first ++ pieces_from l.id l.len l.place 0 (pieces_of l.len))

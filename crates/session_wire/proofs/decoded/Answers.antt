@@ -3,4 +3,4 @@ use Rattle.session_wire.proofs.Laws.{decodes-fronts}
 use Rattle.session_wire.proofs.decoded.Goals as goal
 
 pub returns : goal.returns
-returns c = decodes-fronts c.args.e _ _ _ _ _ _ _ _ _ _ c.words_part-m.ensures.0 c.words_part-r.ensures.0 c.read-d.ensures c.decoded.ensures
+returns c = decodes-fronts c.args.e _ _ _ _ _ _ _ _ _ _ c.part-m.ensures.0 c.part-r.ensures.0 c.read-d.ensures c.decoded.ensures

@@ -2,8 +2,8 @@
 use Rattle.session_wire.proofs.Laws.{length-refused}
 use Rattle.session_wire.proofs.length.Goals as goal
 
-pub returns-in-Refused : goal.returns-in-Refused
-returns-in-Refused c = length-refused _ _ _ _ _ c.in-Refused.is c.varint_len.ensures c.refusal.ensures
+pub returns-in-Err : goal.returns-in-Err
+returns-in-Err c = length-refused _ _ _ _ _ c.in-Err.is c.varint_len.ensures c.refusal.ensures
 
-pub returns-in-To : goal.returns-in-To
-returns-in-To c = let p = rw c.in-To.is at c.varint_len.ensures in rw (← p) c.line.ensures
+pub returns-in-Ok : goal.returns-in-Ok
+returns-in-Ok c = let p = rw c.in-Ok.is at c.varint_len.ensures in rw (← p) c.line.ensures

@@ -1,11 +1,7 @@
--- `words::write_bytes` meets its contract. The loop's invariant: the first i bytes of `src` are in their place, and nothing else changed.
--- Assumes nothing.
-use Rattle.std.proofs.Common.{arith, refl, length-set}
-use Rattle.words.proofs.Splice.{copy-none, copy_more}
+-- `words::write_bytes` meets its contract: a part that is written over is a splice. Assumes nothing.
+use Rattle.std.proofs.Common.{arith, refl}
+use Rattle.words.proofs.Splice.{put_mid-splice}
 use Rattle.words.proofs.write_bytes.Goals as goal
 
-pub loop-i-init : goal.loop-i-init
-loop-i-init c = (omega arith, refl, search copy-none)
-
-pub loop-i-preserved : goal.loop-i-preserved
-loop-i-preserved c = (omega arith, simp length-set (omega arith), search copy_more)
+pub returns : goal.returns
+returns c = (refl, put_mid-splice _ _ _ _ _ c.copy_from_slice.ensures.after (omega arith) c.requires)

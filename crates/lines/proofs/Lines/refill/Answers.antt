@@ -3,4 +3,4 @@ use Rattle.lines.proofs.Steps.{refilled}
 use Rattle.lines.proofs.Lines.refill.Goals as goal
 
 pub returns : goal.returns
-returns c = refilled _ _ _ _ _ c.read-got.new.room _ c.to_front-n.ensures c.read-got.ensures.0
+returns c = refilled _ _ _ _ _ c.read_full-got.new.buf _ c.to_front-n.ensures c.read_full-got.ensures.0

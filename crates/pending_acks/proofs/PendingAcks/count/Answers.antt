@@ -1,7 +1,7 @@
 -- `PendingAcks::count` meets its contract. Assumes nothing.
 use mathlib.Core.Path.{sym}
-use Rattle.pending_acks.proofs.Tables.{length-ranges}
+use Rattle.pending_acks.proofs.Valid.{count-is}
 use Rattle.pending_acks.proofs.PendingAcks.count.Goals as goal
 
 pub returns : goal.returns
-returns c = sym (length-ranges _ _ _)
+returns c = rw (← c.self.view_is) (sym (count-is _ c.self.invariant))

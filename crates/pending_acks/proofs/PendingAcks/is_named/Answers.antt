@@ -1,18 +1,25 @@
 -- `PendingAcks::is_named` meets its contract. Assumes nothing.
-use Rattle.pending_acks.proofs.Asking.{too_large, none-there, says-below, says-in, says-above}
+use Prim.Native.Nat.{◌-◌}
+use native.Mathlib.Omega.{arith}
+use lib.Seq.{get_or-take}
+use Rattle.pending_acks.specs.Fields.{state_of}
+use Rattle.pending_acks.specs.Gather.{range}
+use Rattle.pending_acks.proofs.Valid.{count-is}
+use Rattle.pending_acks.proofs.Asking.{too_large, says_none, says}
 use Rattle.pending_acks.proofs.PendingAcks.is_named.Goals as goal
 
 pub returns-then-x-ge-LIMIT : goal.returns-then-x-ge-LIMIT
 returns-then-x-ge-LIMIT c = too_large _ _ c.if-x-ge-LIMIT.true
 
-pub returns-then-count-eq0 : goal.returns-then-count-eq0
-returns-then-count-eq0 c = none-there c.args.self _ c.if-x-ge-LIMIT.false c.if-count-eq0.true
-
-pub returns-then-x-self : goal.returns-then-x-self
-returns-then-x-self c = says-below _ c.requires _ _ c.if-x-ge-LIMIT.false c.seek-k.ensures c.if-x-self.true
-
-pub returns-then-x-self-2 : goal.returns-then-x-self-2
-returns-then-x-self-2 c = says-in _ c.requires _ _ c.if-x-ge-LIMIT.false c.seek-k.ensures c.if-x-self.false c.if-x-self-2.true
+pub returns-then-k-eq0 : goal.returns-then-k-eq0
+returns-then-k-eq0 c = rw (← c.self.view_is) (says_none _ c.self.invariant.rises _ _ c.if-x-ge-LIMIT.false c.find_place-k.ensures c.if-k-eq0.true)
 
 pub returns : goal.returns
-returns c = says-above _ c.requires _ _ c.if-x-ge-LIMIT.false c.seek-k.ensures c.if-x-self.false c.if-x-self-2.false
+returns c =
+    let g = state_of c.self.inside in
+    let v = c.self.invariant in
+    let p = c.find_place-k.ensures in
+    let l = p.within in
+    let n = count-is g v in
+    let e = get_or-take g.count g.ranges (c.find_place-k.result - 1) (range 0 0) (omega (arith, c.if-k-eq0.false)) in
+    rw (← c.self.view_is, ← e) (says _ v.rises _ _ c.if-x-ge-LIMIT.false p (omega (arith, c.if-k-eq0.false)))

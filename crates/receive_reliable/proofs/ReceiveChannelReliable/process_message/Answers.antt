@@ -1,56 +1,61 @@
 -- `ReceiveChannelReliable::process_message` meets its contract: the cell has room for the message. Assumes nothing.
 use Prim.Native.Nat.{◌<◌}
-use mathlib.Core.Path.{◌≡◌, refl}
+use mathlib.Core.Path.{◌≡◌, refl, ap, ◌∙◌}
 use native.Mathlib.Omega.{arith}
 use lib.ListN.{length}
+use Rattle.std.specs.Prelude.{Ok}
 use Rattle.words.specs.Sizes.{SLOTS}
 use Rattle.receive_reliable.specs.Receive.{message_spot, cell, with_message_of}
+use Rattle.receive_reliable.specs.declared.Arrival.{Arrival}
+use Rattle.receive_reliable.specs.Fields.{state_of}
+use Rattle.receive_reliable.proofs.Valid.{message-valid}
 use Rattle.receive_reliable.proofs.Spots.{spot-cell}
-use Rattle.receive_reliable.proofs.Gives.{cell-told, message-left, message-taken}
+use Rattle.receive_reliable.proofs.Gives.{cell-told, message-taken}
 use Rattle.receive_reliable.proofs.ReceiveChannelReliable.process_message.Goals as goal
-use Rattle.receive_reliable.proofs.ReceiveChannelReliable.process_message.Goals.{In-Taken}
+use Rattle.receive_reliable.proofs.ReceiveChannelReliable.process_message.Goals.{In-Ok-Taken}
 
 -- the cell that the message goes to
-in_cell : (c : In-Taken) → (let a = c.args in
-    message_spot a.self a.message_id.0 (length a.message.now) (length a.small.now) (length a.lanes.now) ≡ cell c.lowest_free-free.result)
-in_cell c = cell-told _ c.message_answer-answer.result _ c.message_answer-answer.ensures c.in-Taken.is
+in_cell : (c : In-Ok-Taken) → (let a = c.args in
+    message_spot (state_of c.self.inside) a.message_id.0 (length a.message.now) (length a.small.now) (length a.lanes.now) ≡ cell c.lowest_free-free.result)
+in_cell c = cell-told _ c.message_answer-answer.result _ (rw (← c.self.view_is) at c.message_answer-answer.ensures) (c.in-Ok-Taken.is ∙ ap (λ (x : Arrival). Ok x) (rw c.in-Ok-Taken.is at c.in-Ok-Taken.field-0-is))
 
-cell-low : (c : In-Taken) → c.lowest_free-free.result < SLOTS
-cell-low c = let v = c.requires in omega (arith, (spot-cell _ v _ _ _ _ _ (in_cell c)).1.low, v.settings.slots-most)
-
-pub message_answer-answer-requires : goal.message_answer-answer-requires
-message_answer-answer-requires c = (c.requires, c.locate-held.ensures, c.lowest_free-free.ensures)
-
-pub returns-in_default : goal.returns-in_default
-returns-in_default c = message-left _ c.requires _ _ _ _ _ c.message_answer-answer.result c.message_answer-answer.ensures c.in_default.not-Taken
+cell-low : (c : In-Ok-Taken) → c.lowest_free-free.result < SLOTS
+cell-low c = let v = c.self.invariant in omega (arith, (spot-cell _ v _ _ _ _ _ (in_cell c)).1.low, v.settings.slots-most)
 
 pub overflow_mul-free : goal.overflow_mul-free
-overflow_mul-free c = let low = cell-low (goal.at.overflow_mul-free c).In-Taken in omega arith
+overflow_mul-free c = let low = cell-low (goal.at.overflow_mul-free c).In-Ok-Taken in omega arith
 
 pub write_bytes-requires : goal.write_bytes-requires
-write_bytes-requires c = let p = spot-cell _ c.requires _ _ _ _ _ (in_cell (goal.at.write_bytes-requires c).In-Taken) in omega (arith, p.0.small-room, p.1.low, p.1.short)
+write_bytes-requires c = let p = spot-cell _ c.self.invariant _ _ _ _ _ (in_cell (goal.at.write_bytes-requires c).In-Ok-Taken) in omega (arith, p.0.small-room, p.1.low, p.1.short)
 
 pub overflow_add-self : goal.overflow_add-self
-overflow_add-self c = let v = c.requires in omega (arith, (spot-cell _ v _ _ _ _ _ (in_cell (goal.at.overflow_add-self c).In-Taken)).1.memory, v.settings.max-most)
+overflow_add-self c = let v = c.self.invariant in omega (arith, (spot-cell _ v _ _ _ _ _ (in_cell (goal.at.overflow_add-self c).In-Ok-Taken)).1.memory, v.settings.max-most)
 
-pub bounds-self-free : goal.bounds-self-free
-bounds-self-free c = cell-low (goal.at.bounds-self-free c).In-Taken
+pub bounds-self-inside-free : goal.bounds-self-inside-free
+bounds-self-inside-free c = cell-low (goal.at.bounds-self-inside-free c).In-Ok-Taken
 
-pub offset_bounds-self-free : goal.offset_bounds-self-free
-offset_bounds-self-free c = let low = cell-low (goal.at.offset_bounds-self-free c).In-Taken in omega arith
+pub offset_bounds-self-inside-free : goal.offset_bounds-self-inside-free
+offset_bounds-self-inside-free c = let low = cell-low (goal.at.offset_bounds-self-inside-free c).In-Ok-Taken in omega arith
 
-pub bounds-self-free-2 : goal.bounds-self-free-2
-bounds-self-free-2 c = cell-low (goal.at.bounds-self-free-2 c).In-Taken
+pub bounds-self-inside-free-2 : goal.bounds-self-inside-free-2
+bounds-self-inside-free-2 c = cell-low (goal.at.bounds-self-inside-free-2 c).In-Ok-Taken
 
 pub overflow_cast-self : goal.overflow_cast-self
-overflow_cast-self c = omega (arith, (spot-cell _ c.requires _ _ _ _ _ (in_cell (goal.at.overflow_cast-self c).In-Taken)).1.short)
+overflow_cast-self c = omega (arith, (spot-cell _ c.self.invariant _ _ _ _ _ (in_cell (goal.at.overflow_cast-self c).In-Ok-Taken)).1.short)
 
-pub offset_bounds-self-free-2 : goal.offset_bounds-self-free-2
-offset_bounds-self-free-2 c = let low = cell-low (goal.at.offset_bounds-self-free-2 c).In-Taken in omega arith
+pub offset_bounds-self-inside-free-2 : goal.offset_bounds-self-inside-free-2
+offset_bounds-self-inside-free-2 c = let low = cell-low (goal.at.offset_bounds-self-inside-free-2 c).In-Ok-Taken in omega arith
 
-pub bounds-self-free-3 : goal.bounds-self-free-3
-bounds-self-free-3 c = cell-low (goal.at.bounds-self-free-3 c).In-Taken
+pub bounds-self-inside-free-3 : goal.bounds-self-inside-free-3
+bounds-self-inside-free-3 c = cell-low (goal.at.bounds-self-inside-free-3 c).In-Ok-Taken
+
+pub invariant_of-self : goal.invariant_of-self
+unfolding with_message_of
+invariant_of-self c = message-valid _ c.self.invariant _ _ _ (spot-cell _ c.self.invariant _ _ _ _ _ (in_cell (goal.at.invariant_of-self c).In-Ok-Taken)).1
 
 pub returns : goal.returns
 unfolding with_message_of
-returns c = message-taken _ c.requires _ _ _ _ _ _ _ (in_cell (goal.at.returns c).In-Taken) c.write_bytes.ensures.1 refl
+returns c = rw (← c.self.view_is) (message-taken _ c.self.invariant _ _ _ _ _ _ _ (in_cell (goal.at.returns c).In-Ok-Taken) c.write_bytes.ensures.1 refl)
+
+pub message_answer-answer-requires : goal.message_answer-answer-requires
+message_answer-answer-requires c = rw (← c.self.view_is) c.lowest_free-free.ensures

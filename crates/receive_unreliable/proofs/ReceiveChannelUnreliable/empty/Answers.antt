@@ -1,6 +1,11 @@
 -- `ReceiveChannelUnreliable::empty` meets its contract. Assumes nothing.
 use Rattle.receive_unreliable.specs.Receive.{new_of}
+use Rattle.receive_unreliable.proofs.Valid.{new-valid}
 use Rattle.receive_unreliable.proofs.ReceiveChannelUnreliable.empty.Goals as goal
+
+pub invariant_of-result : goal.invariant_of-result
+unfolding new_of
+invariant_of-result c = rw c.blank-constructor.ensures.0 (new-valid c.args.settings c.requires)
 
 pub returns : goal.returns
 unfolding new_of

@@ -7,15 +7,15 @@ use Rattle.receive_unreliable.proofs.ReceiveChannelUnreliable.next.Goals as goal
 
 pub returns-then-self-eq0 : goal.returns-then-self-eq0
 unfolding next_place
-returns-then-self-eq0 c = rw (eq-eqb _ _ c.if-self-eq0.true)
+returns-then-self-eq0 c = rw (← c.self.view_is, eq-eqb _ _ c.if-self-eq0.true)
 
 pub overflow_cast-first : goal.overflow_cast-first
-overflow_cast-first c = omega (arith, (first-waits _ c.requires c.if-self-eq0.false).1.low)
+overflow_cast-first c = omega (arith, (first-waits _ c.self.invariant c.if-self-eq0.false).1.low)
 
 pub returns-then-first-lt-SLOTS : goal.returns-then-first-lt-SLOTS
 unfolding next_place
-returns-then-first-lt-SLOTS c = rw (ne_eqb _ _ c.if-self-eq0.false, lt-ltb _ _ c.if-first-lt-SLOTS.true)
+returns-then-first-lt-SLOTS c = rw (← c.self.view_is, ne_eqb _ _ c.if-self-eq0.false, lt-ltb _ _ c.if-first-lt-SLOTS.true)
 
 pub returns : goal.returns
 unfolding next_place
-returns c = rw (ne_eqb _ _ c.if-self-eq0.false, le-ltb _ _ c.if-first-lt-SLOTS.false)
+returns c = rw (← c.self.view_is, ne_eqb _ _ c.if-self-eq0.false, le-ltb _ _ c.if-first-lt-SLOTS.false)

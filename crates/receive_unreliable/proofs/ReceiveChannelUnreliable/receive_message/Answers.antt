@@ -2,97 +2,93 @@
 use Prim.Native.Nat.{◌<◌}
 use mathlib.Core.Path.{◌≡◌, refl, sym, ap, ◌∙◌}
 use native.Mathlib.Omega.{arith}
+use Rattle.std.specs.Prelude.{Ok, Some}
 use Rattle.words.specs.Sizes.{SLOTS, LANES}
-use Rattle.channel.proofs.Good.{lane-end}
-use Rattle.receive_unreliable.specs.Receive.{at-cell, at-lane, next_place, without_cell, without_lane}
+use Rattle.channel.specs.declared.Store.{Store}
+use Rattle.channel.specs.declared.Store.TheVariants.{Small, Lanes}
+use Rattle.receive_unreliable.specs.Receive.{at-cell, at-lane, next_place, shown_at, look_of, without_cell, without_lane}
 use Rattle.receive_unreliable.specs.Steps.{held_of}
-use Rattle.receive_unreliable.specs.declared.Held.TheVariants.{At}
+use Rattle.receive_unreliable.specs.Fields.{state_of}
 use Rattle.receive_unreliable.proofs.Spots.{Lies, cell_lies, lane_lies}
-use Rattle.receive_unreliable.proofs.Valid.{cell-used, lane-used, count_most}
-use Rattle.receive_unreliable.proofs.Gives.{some-waits, took-nothing, took-small, took-lanes}
+use Rattle.receive_unreliable.proofs.Valid.{count_most, without-cell-valid, without-lane-valid}
+use Rattle.receive_unreliable.proofs.Gives.{some-waits, shown-len, shown-used, took-nothing, took-small, took-lanes}
 use Rattle.receive_unreliable.proofs.ReceiveChannelUnreliable.receive_message.Goals as goal
-use Rattle.receive_unreliable.proofs.ReceiveChannelUnreliable.receive_message.Goals.{In-At, In-Lanes, In-Small}
-
--- something waits
-some : (c : In-At) → 0 < c.args.self.count
-some c = some-waits _ c.requires c.in-At.store c.in-At.i (sym (ap held_of c.in-At.is) ∙ c.next-held.ensures)
+use Rattle.receive_unreliable.proofs.ReceiveChannelUnreliable.receive_message.Goals.{After-shown-message, in-Small, in-Lanes}
 
 -- where the message is held
-in_cell : (c : In-Small) → at-cell c.in-At.i ≡ next_place c.args.self
-in_cell c = ap (λ x. held_of (At x c.in-At.i)) (sym c.in-Small.is) ∙ sym (ap held_of c.in-At.is) ∙ c.next-held.ensures
+held : (c : After-shown-message) → (store : Store) → c.in-Some.store ≡ store → held_of (Some (store, c.in-Some.i)) ≡ next_place (state_of c.self.inside)
+held c store e = ap (λ (x : Store). held_of (Some (x, c.in-Some.i))) (sym e) ∙ (rw (← c.self.view_is) at (sym (ap held_of c.in-Some.is) ∙ c.next.ensures))
 
-in_lane : (c : In-Lanes) → at-lane c.in-At.i ≡ next_place c.args.self
-in_lane c = ap (λ x. held_of (At x c.in-At.i)) (sym c.in-Lanes.is) ∙ sym (ap held_of c.in-At.is) ∙ c.next-held.ensures
+-- what is shown of it
+shown : (c : After-shown-message) → (store : Store) → c.in-Some.store ≡ store → look_of (Ok (Some c.shown-message.result)) ≡ shown_at (state_of c.self.inside) (held_of (Some (store, c.in-Some.i)))
+shown c store e = (rw (← c.self.view_is) at c.shown-message.ensures) ∙ ap (λ (x : Store). shown_at (state_of c.self.inside) (held_of (Some (x, c.in-Some.i)))) e
 
-cell-low : (c : In-Small) → c.in-At.i < SLOTS
+-- something waits
+some : (c : After-shown-message) → 0 < c.self.inside.count
+some c = some-waits (state_of c.self.inside) c.self.invariant c.in-Some.store c.in-Some.i (held c _ refl)
+
+cell-low : (c : After-shown-message) → c.in-Some.store ≡ Small → c.in-Some.i < SLOTS
 unfolding Lies
-cell-low c = let v = c.requires in omega (arith, (cell_lies _ v _ (in_cell c)).2, v.settings.slots-most)
+cell-low c e = let v = c.self.invariant in omega (arith, (cell_lies _ v _ (held c Small e)).2, v.settings.slots-most)
 
-lane_in : (c : In-Lanes) → c.in-At.i < c.args.self.settings.lanes
+lane_low : (c : After-shown-message) → c.in-Some.store ≡ Lanes → c.in-Some.i < LANES
 unfolding Lies
-lane_in c = (lane_lies _ c.requires _ (in_lane c)).2
-
-lane_low : (c : In-Lanes) → c.in-At.i < LANES
-lane_low c = omega (arith, lane_in c, c.requires.settings.lanes-most)
+lane_low c e = let v = c.self.invariant in omega (arith, (lane_lies _ v _ (held c Lanes e)).2, v.settings.lanes-most)
 
 pub returns-in_default : goal.returns-in_default
-returns-in_default c = took-nothing _ c.requires (sym (ap held_of c.in_default.is) ∙ c.next-held.ensures)
-
-pub overflow_sub-self : goal.overflow_sub-self
-overflow_sub-self c = some (goal.at.overflow_sub-self c).In-At
+returns-in_default c = took-nothing _ (rw c.self.view_is at c.self.invariant) (sym (ap held_of c.in_default.is) ∙ c.next.ensures)
 
 pub close_up-requires : goal.close_up-requires
-close_up-requires c = let v = c.requires in (some (goal.at.close_up-requires c).In-At, count_most _ v, v.queue.long, v.queue.past)
+close_up-requires c = let v = c.self.invariant in (some (goal.at.close_up-requires c).After-shown-message, count_most _ v, v.queue.long, v.queue.past)
 
-pub offset_bounds-self-i : goal.offset_bounds-self-i
-offset_bounds-self-i c = let low = cell-low (goal.at.offset_bounds-self-i c).In-Small in omega arith
+pub overflow_sub-self : goal.overflow_sub-self
+overflow_sub-self c = some (goal.at.overflow_sub-self c).After-shown-message
 
-pub bounds-self-i : goal.bounds-self-i
-bounds-self-i c = cell-low (goal.at.bounds-self-i c).In-Small
+pub overflow_sub-self-2 : goal.overflow_sub-self-2
+overflow_sub-self-2 c =
+    let i = (goal.at.overflow_sub-self-2 c).After-shown-message in
+    shown-used (state_of c.self.inside) c.self.invariant _ _ _ (held i _ refl) (shown i _ refl)
 
-pub overflow_cast-len : goal.overflow_cast-len
-overflow_cast-len c = omega (arith, (c.requires.cell _ (cell-low (goal.at.overflow_cast-len c).In-Small)).small)
+pub bounds-self-inside-i : goal.bounds-self-inside-i
+bounds-self-inside-i c = cell-low (goal.at.bounds-self-inside-i c).After-shown-message c.in-Small.is
 
-pub overflow_mul-answer : goal.overflow_mul-answer
-overflow_mul-answer c = let low = cell-low (goal.at.overflow_mul-answer c).In-Small in omega arith
+pub bounds-self-inside-i-in-Small : goal.bounds-self-inside-i-in-Small
+bounds-self-inside-i-in-Small c = cell-low (goal.at.bounds-self-inside-i-in-Small c).After-shown-message c.in-Small.is
 
-pub overflow_sub-self-in-Small : goal.overflow_sub-self-in-Small
-overflow_sub-self-in-Small c = cell-used _ c.requires _ (cell-low (goal.at.overflow_sub-self-in-Small c).In-Small)
+pub invariant_of-self : goal.invariant_of-self
+unfolding without_cell Lies
+invariant_of-self c =
+    let i = (goal.at.invariant_of-self c).After-shown-message in
+    let s = state_of c.self.inside in
+    let h = cell_lies s c.self.invariant _ (held i Small c.in-Small.is) in
+    rw (shown-len s _ (at-cell c.in-Some.i) (shown i Small c.in-Small.is), c.close_up.ensures)
+    (without-cell-valid s c.self.invariant _ (cell-low i c.in-Small.is) h.0 h.1 h.3)
 
-pub bounds-self-i-in-Small : goal.bounds-self-i-in-Small
-bounds-self-i-in-Small c = cell-low (goal.at.bounds-self-i-in-Small c).In-Small
+pub bounds-self-inside-i-in-Lanes : goal.bounds-self-inside-i-in-Lanes
+bounds-self-inside-i-in-Lanes c = lane_low (goal.at.bounds-self-inside-i-in-Lanes c).After-shown-message c.in-Lanes.is
 
-pub offset_bounds-self-i-in-Small : goal.offset_bounds-self-i-in-Small
-offset_bounds-self-i-in-Small c = let low = cell-low (goal.at.offset_bounds-self-i-in-Small c).In-Small in omega arith
+pub bounds-self-inside-i-in-Lanes-2 : goal.bounds-self-inside-i-in-Lanes-2
+bounds-self-inside-i-in-Lanes-2 c = lane_low (goal.at.bounds-self-inside-i-in-Lanes-2 c).After-shown-message c.in-Lanes.is
 
-pub bounds-self-i-in-Small-2 : goal.bounds-self-i-in-Small-2
-bounds-self-i-in-Small-2 c = cell-low (goal.at.bounds-self-i-in-Small-2 c).In-Small
+pub invariant_of-self-in-Lanes : goal.invariant_of-self-in-Lanes
+unfolding without_lane Lies
+invariant_of-self-in-Lanes c =
+    let i = (goal.at.invariant_of-self-in-Lanes c).After-shown-message in
+    let s = state_of c.self.inside in
+    let h = lane_lies s c.self.invariant _ (held i Lanes c.in-Lanes.is) in
+    rw (shown-len s _ (at-lane c.in-Some.i) (shown i Lanes c.in-Lanes.is), c.close_up.ensures)
+    (without-lane-valid s c.self.invariant _ (lane_low i c.in-Lanes.is) h.0 h.1 h.3 h.4)
 
-pub returns-in-Small : goal.returns-in-Small
-unfolding without_cell
-returns-in-Small c = took-small _ c.requires _ _ _ (in_cell (goal.at.returns-in-Small c).In-Small) refl (rw c.close_up.ensures)
-
-pub offset_bounds-self-i-in-Lanes : goal.offset_bounds-self-i-in-Lanes
-offset_bounds-self-i-in-Lanes c = let low = lane_low (goal.at.offset_bounds-self-i-in-Lanes c).In-Lanes in omega arith
-
-pub bounds-self-i-in-Lanes : goal.bounds-self-i-in-Lanes
-bounds-self-i-in-Lanes c = lane_low (goal.at.bounds-self-i-in-Lanes c).In-Lanes
-
-pub overflow_mul-answer-in-Lanes : goal.overflow_mul-answer-in-Lanes
-overflow_mul-answer-in-Lanes c = omega (arith, lane-end _ c.requires.settings _ (lane_in (goal.at.overflow_mul-answer-in-Lanes c).In-Lanes))
-
-pub overflow_sub-self-in-Lanes : goal.overflow_sub-self-in-Lanes
-overflow_sub-self-in-Lanes c = lane-used _ c.requires _ (lane_low (goal.at.overflow_sub-self-in-Lanes c).In-Lanes)
-
-pub bounds-self-i-in-Lanes-2 : goal.bounds-self-i-in-Lanes-2
-bounds-self-i-in-Lanes-2 c = lane_low (goal.at.bounds-self-i-in-Lanes-2 c).In-Lanes
-
-pub offset_bounds-self-i-in-Lanes-2 : goal.offset_bounds-self-i-in-Lanes-2
-offset_bounds-self-i-in-Lanes-2 c = let low = lane_low (goal.at.offset_bounds-self-i-in-Lanes-2 c).In-Lanes in omega arith
-
-pub bounds-self-i-in-Lanes-3 : goal.bounds-self-i-in-Lanes-3
-bounds-self-i-in-Lanes-3 c = lane_low (goal.at.bounds-self-i-in-Lanes-3 c).In-Lanes
-
-pub returns-in-Lanes : goal.returns-in-Lanes
-unfolding without_lane
-returns-in-Lanes c = took-lanes _ c.requires _ _ _ (in_lane (goal.at.returns-in-Lanes c).In-Lanes) refl (rw c.close_up.ensures)
+pub returns : goal.returns
+unfolding without_cell without_lane
+returns c =
+    let i = (goal.at.returns c).After-shown-message in
+    let s = state_of c.self.inside in
+    elim c.match-store.branch [
+      | in-Small w ↦
+          rw (w.self-is, ← c.self.view_is)
+          (took-small s c.self.invariant _ _ _ (held i Small w.in-Small.is) (shown i Small w.in-Small.is) (rw (shown-len s _ (at-cell c.in-Some.i) (shown i Small w.in-Small.is), c.close_up.ensures)))
+      | in-Lanes w ↦
+          rw (w.self-is, ← c.self.view_is)
+          (took-lanes s c.self.invariant _ _ _ (held i Lanes w.in-Lanes.is) (shown i Lanes w.in-Lanes.is) (rw (shown-len s _ (at-lane c.in-Some.i) (shown i Lanes w.in-Lanes.is), c.close_up.ensures)))
+    ]

@@ -1,11 +1,9 @@
 -- `SendChannelUnreliable::new` meets its contract: the settings are judged, and what is made is valid. Assumes nothing.
-use mathlib.Core.Path.{sym, ap, ◌∙◌}
-use Rattle.channel.specs.Settings.{setup_number}
 use Rattle.send_unreliable.proofs.Gives.{made-ready, made-refused}
 use Rattle.send_unreliable.proofs.SendChannelUnreliable.new.Goals as goal
 
-pub returns-in-Ready : goal.returns-in-Ready
-returns-in-Ready c = made-ready _ _ _ (sym c.judge-answer.ensures ∙ ap setup_number c.in-Ready.is) c.empty-state.ensures
+pub returns-in-Ok : goal.returns-in-Ok
+returns-in-Ok c = made-ready _ _ _ c.settle-settled.ensures _ c.in-Ok.is c.empty.ensures
 
-pub returns-in-Refused : goal.returns-in-Refused
-returns-in-Refused c = made-refused _ _ _ _ (sym c.judge-answer.ensures ∙ ap setup_number c.in-Refused.is) c.empty-state-in-Refused.ensures
+pub returns-in-Err : goal.returns-in-Err
+returns-in-Err c = made-refused _ _ _ c.settle-settled.ensures _ _ c.in-Err.is c.empty-in-Err.ensures

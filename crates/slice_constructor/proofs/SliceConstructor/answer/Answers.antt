@@ -5,8 +5,8 @@ use Rattle.slice_constructor.proofs.SliceConstructor.answer.Goals as goal
 
 pub returns-then-self : goal.returns-then-self
 unfolding answer_of
-returns-then-self c = simp (eq-eqb _ _ c.if-self.true)
+returns-then-self c = rw (← c.self.view_is) (simp (eq-eqb _ _ c.if-self.true))
 
 pub returns : goal.returns
 unfolding answer_of
-returns c = simp (ne_eqb _ _ c.if-self.false)
+returns c = rw (← c.self.view_is) (simp (ne_eqb _ _ c.if-self.false))

@@ -6,16 +6,16 @@ use Rattle.slice_constructor.proofs.SliceConstructor.judge.Goals as goal
 
 pub returns-then-room-self : goal.returns-then-room-self
 unfolding collect_refusal
-returns-then-room-self c = simp (lt-ltb _ _ c.if-room-self.true)
+returns-then-room-self c = rw (← c.self.view_is) (simp (lt-ltb _ _ c.if-room-self.true), c.self.invariant)
 
 pub returns-then-self-i : goal.returns-then-self-i
 unfolding collect_refusal
-returns-then-self-i c = simp (le-ltb _ _ c.if-room-self.false, le-leb _ _ c.if-self-i.true)
+returns-then-self-i c = rw (← c.self.view_is) (simp (le-ltb _ _ c.if-room-self.false, le-leb _ _ c.if-self-i.true), c.self.invariant)
 
-pub returns-then-is_sized : goal.returns-then-is_sized
+pub returns : goal.returns
 unfolding collect_refusal
-returns-then-is_sized c = simp (le-ltb _ _ c.if-room-self.false, lt-leb _ _ c.if-self-i.false, sym c.is_sized.ensures ∙ c.if-is_sized.true)
+returns c = rw (← c.self.view_is) (simp (le-ltb _ _ c.if-room-self.false, lt-leb _ _ c.if-self-i.false, sym (rw (← c.self.view_is) at c.is_sized.ensures) ∙ c.if-not-is_sized.false), c.self.invariant)
 
-pub returns-else-is_sized : goal.returns-else-is_sized
+pub returns-then-not-is_sized : goal.returns-then-not-is_sized
 unfolding collect_refusal
-returns-else-is_sized c = simp (le-ltb _ _ c.if-room-self.false, lt-leb _ _ c.if-self-i.false, sym c.is_sized.ensures ∙ c.if-is_sized.false)
+returns-then-not-is_sized c = rw (← c.self.view_is) (simp (le-ltb _ _ c.if-room-self.false, lt-leb _ _ c.if-self-i.false, sym (rw (← c.self.view_is) at c.is_sized.ensures) ∙ c.if-not-is_sized.true), c.self.invariant)

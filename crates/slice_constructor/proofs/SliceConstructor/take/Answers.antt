@@ -1,40 +1,59 @@
 -- `SliceConstructor::take` meets its contract: a repeat, the last piece, or another. Assumes nothing.
 use native.Mathlib.Omega.{arith}
 use borrow.Author.Tests.{eq-eqb, ne_eqb}
+use lib.ListN.{length}
 use Rattle.words.proofs.Lists.{holds-le}
 use Rattle.slice_constructor.specs.Collect.{taken, lane_taken}
-use Rattle.slice_constructor.proofs.Valid.{good, piece-room, in_table}
+use Rattle.slice_constructor.specs.Fields.{state_of}
+use Rattle.slice_constructor.proofs.Valid.{Good, good, piece-room, more-valid}
 use Rattle.slice_constructor.proofs.SliceConstructor.take.Goals as goal
+use Rattle.slice_constructor.proofs.SliceConstructor.take.Goals.{After-self}
 
-pub bounds-self-i : goal.bounds-self-i
-bounds-self-i c = let p = c.requires in omega (arith, in_table _ p.0 _ _ _ (good _ _ _ _ p.1), p.0.received-long)
+-- the piece is a good one
+fine : (c : After-self) → (let a = c.args in Good (state_of c.self.inside) a.i (length a.bytes.now) (length a.lane.now))
+fine c = good _ _ _ _ (rw (← c.self.view_is) at c.requires)
 
-pub returns-then-here : goal.returns-then-here
+pub bounds-self-inside-i : goal.bounds-self-inside-i
+bounds-self-inside-i c = let v = c.self.invariant in omega (arith, (fine c).low, v.num-most)
+
+pub returns-then-self-i : goal.returns-then-self-i
 unfolding taken lane_taken
-returns-then-here c = (simp c.if-here.true, simp c.if-here.true)
+returns-then-self-i c = rw (← c.self.view_is) (simp c.if-self-i.true, simp c.if-self-i.true)
 
 pub overflow_mul-i : goal.overflow_mul-i
-overflow_mul-i c = let p = c.requires in omega (arith, (good _ _ _ _ p.1).low, p.0.num-most)
+overflow_mul-i c = let v = c.self.invariant in omega (arith, (fine (goal.at.overflow_mul-i c).After-self).low, v.num-most)
 
 pub write_bytes-requires : goal.write_bytes-requires
-write_bytes-requires c = piece-room _ _ _ _ (good _ _ _ _ c.requires.1)
+write_bytes-requires c = piece-room _ _ _ _ (fine (goal.at.write_bytes-requires c).After-self)
 
-pub bounds-self-i-2 : goal.bounds-self-i-2
-bounds-self-i-2 c = let p = c.requires in omega (arith, in_table _ p.0 _ _ _ (good _ _ _ _ p.1), p.0.received-long)
+pub bounds-self-inside-i-2 : goal.bounds-self-inside-i-2
+bounds-self-inside-i-2 c = let v = c.self.invariant in omega (arith, (fine (goal.at.bounds-self-inside-i-2 c).After-self).low, v.num-most)
 
 pub overflow_add-self : goal.overflow_add-self
-overflow_add-self c = let v = c.requires.0 in omega (arith, holds-le c.args.self.received, v.counted, v.received-long)
+overflow_add-self c = let v = c.self.invariant in omega (arith, holds-le c.self.inside.received, v.counted, v.received-long)
+
+pub invariant_of-self : goal.invariant_of-self
+invariant_of-self c =
+    let g = fine (goal.at.invariant_of-self c).After-self in
+    rw (eq-eqb _ _ c.if-i-self.true) at (more-valid _ c.self.invariant _ _ _ g c.if-self-i.false)
+
+pub invariant_of-self-else-i-self : goal.invariant_of-self-else-i-self
+invariant_of-self-else-i-self c =
+    let g = fine (goal.at.invariant_of-self-else-i-self c).After-self in
+    rw (ne_eqb _ _ c.if-i-self.false) at (more-valid _ c.self.invariant _ _ _ g c.if-self-i.false)
 
 pub returns-then-i-self : goal.returns-then-i-self
 unfolding taken lane_taken
-returns-then-i-self c = (
-  simp (c.if-here.false, eq-eqb _ _ c.if-i-self.true),
-  simp c.if-here.false c.write_bytes.ensures.1,
-)
+returns-then-i-self c =
+    rw (← c.self.view_is) (
+      simp (c.if-self-i.false, eq-eqb _ _ c.if-i-self.true),
+      simp c.if-self-i.false c.write_bytes.ensures.1,
+    )
 
 pub returns-else-i-self : goal.returns-else-i-self
 unfolding taken lane_taken
-returns-else-i-self c = (
-  simp (c.if-here.false, ne_eqb _ _ c.if-i-self.false),
-  simp c.if-here.false c.write_bytes.ensures.1,
-)
+returns-else-i-self c =
+    rw (← c.self.view_is) (
+      simp (c.if-self-i.false, ne_eqb _ _ c.if-i-self.false),
+      simp c.if-self-i.false c.write_bytes.ensures.1,
+    )

@@ -3,4 +3,4 @@ use Rattle.window.proofs.Valid.{made}
 use Rattle.window.proofs.Window.new.Goals as goal
 
 pub returns : goal.returns
-returns c = made _ _ _ c.settle-settled.ensures c.empty-state.ensures
+returns c = made _ _ _ c.settle-settled.ensures c.empty.ensures

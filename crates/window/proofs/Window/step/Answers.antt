@@ -5,27 +5,31 @@ use borrow.Author.Tests.{lt-ltb, le-ltb, le-leb}
 use Rattle.window.specs.Window.{queue_refusal}
 use Rattle.window.specs.Steps.{one_of, plus, judged, spot_of}
 use Rattle.window.specs.declared.Load.{Load}
+use Rattle.window.specs.Fields.{state_of}
 use Rattle.window.proofs.Steps.{load-bounded, stepped}
 use Rattle.window.proofs.Window.step.Goals as goal
 
 pub returns-then-oldest-first : goal.returns-then-oldest-first
 unfolding spot_of queue_refusal
-returns-then-oldest-first c = simp (lt-ltb _ _ c.if-oldest-first.true)
+returns-then-oldest-first c = rw (← c.self.view_is) (simp (lt-ltb _ _ c.if-oldest-first.true))
 
 pub returns-then-next-oldest : goal.returns-then-next-oldest
 unfolding spot_of queue_refusal
-returns-then-next-oldest c = simp (le-ltb _ _ c.if-oldest-first.false, lt-ltb _ _ c.if-next-oldest.true)
+returns-then-next-oldest c = rw (← c.self.view_is) (simp (le-ltb _ _ c.if-oldest-first.false, lt-ltb _ _ c.if-next-oldest.true))
 
 pub returns-then-next-ge-LIMIT : goal.returns-then-next-ge-LIMIT
 unfolding spot_of queue_refusal
-returns-then-next-ge-LIMIT c = simp (le-ltb _ _ c.if-oldest-first.false, le-ltb _ _ c.if-next-oldest.false, le-leb _ _ c.if-next-ge-LIMIT.true)
+returns-then-next-ge-LIMIT c = rw (← c.self.view_is) (simp (le-ltb _ _ c.if-oldest-first.false, le-ltb _ _ c.if-next-oldest.false, le-leb _ _ c.if-next-ge-LIMIT.true))
 
 pub judge-requires : goal.judge-requires
-judge-requires c = (c.requires.settings, rw c.load_without-others.ensures (load-bounded _ c.requires (c.args.oldest - c.args.self.first)))
+judge-requires c = (c.self.invariant.settings, rw (c.load_without-others.ensures, ← c.self.view_is) (load-bounded _ c.self.invariant (c.args.oldest - c.self.inside.first)))
 
 pub returns : goal.returns
 returns c =
     let a = c.args in
-    c.judge.ensures
-    ∙ ap (λ (load : Load). judged a.self.settings (a.oldest - a.self.first) (plus load (one_of a.len)) a.len) c.load_without-others.ensures
-    ∙ stepped a.self a.oldest a.len c.if-oldest-first.false c.if-next-oldest.false c.if-next-ge-LIMIT.false
+    let w = state_of c.self.inside in
+    let others = rw (← c.self.view_is) at c.load_without-others.ensures in
+    rw (← c.self.view_is)
+    (c.judge.ensures
+    ∙ ap (λ (load : Load). judged w.settings (a.oldest - w.first) (plus load (one_of a.len)) a.len) others
+    ∙ stepped w a.oldest a.len c.if-oldest-first.false c.if-next-oldest.false c.if-next-ge-LIMIT.false)

@@ -1,0 +1,18 @@
+-- `bench_calls::times_at_both` meets its contract: each turn is one step. Assumes nothing.
+use mathlib.Core.Path.{◌≡◌, refl}
+use native.Mathlib.Omega.{arith}
+use native.Mathlib.Numerals.{add-one}
+use Rattle.bench_calls.specs.Times.{none, more, held}
+use Rattle.bench_calls.specs.Calls.{StepsAtBoth}
+use Rattle.bench_calls.proofs.times_at_both.Goals as goal
+
+pub loop-k-init : goal.loop-k-init
+loop-k-init g c = none
+
+pub loop-k-preserved : goal.loop-k-preserved
+loop-k-preserved g c =
+    let went : StepsAtBoth _ _ _ (held _ _ _) (held _ _ _) = record { shown = _; small = _; lanes = _; left = _; small' = _; lanes' = _; shows = (refl, refl, refl); met = c.step.ensures; leaves = (refl, refl, refl) } in
+    rw add-one (more c.loop-k.invariant went)
+
+pub returns : goal.returns
+returns g c = let all : c.args.count ≡ c.loop-k.k = omega arith in rw all c.loop-k.invariant

@@ -1,9 +1,0 @@
--- `lines::Lines::line_to` meets its contract. Assumes nothing.
-
-use Rattle.lines.proofs.Lines.line_to.Goals as goal
-
-pub returns-then-self : goal.returns-then-self
-returns-then-self c = rw c.if-self.true
-
-pub returns : goal.returns
-returns c = rw c.if-self.false

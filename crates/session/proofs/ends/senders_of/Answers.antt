@@ -1,7 +1,0 @@
--- `session::ends::senders_of` meets its contract: by what it is to be sound. Assumes nothing.
-use Rattle.session.specs.Sound.{Sound}
-use Rattle.session.proofs.ends.senders_of.Goals as goal
-
-pub returns : goal.returns
-unfolding Sound
-returns c = c.requires.1

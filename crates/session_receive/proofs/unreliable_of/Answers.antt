@@ -1,8 +1,0 @@
--- `session_receive::unreliable_of` meets its contract: by what it is to be sound. Assumes nothing.
-use borrow.Author.Rules.{rules}
-use Rattle.session_receive.specs.Sound.{Sound}
-use Rattle.session_receive.proofs.unreliable_of.Goals as goal
-
-pub returns : goal.returns
-unfolding Sound
-returns c = search rules
