@@ -1,6 +1,7 @@
 #![tactic(auto)]
 // The sending end of an unreliable channel. Messages wait in a queue, and a round empties it: what the
-// allowance covers goes once, the rest is dropped for good.
+// allowance covers goes once, the rest is dropped for good. Its calls have the form of the reliable
+// sender's, and are no twins: the states differ, and with them what the promises cite (`QueueGives`).
 //
 // A call takes a state and hands one back. What it does to the state it does in place, in a private
 // method on `&mut self`, so that a refusal is a `?` and no further copy of the state.
