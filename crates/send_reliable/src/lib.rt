@@ -199,12 +199,8 @@ impl Visit {
 fn find(rows: &[Row], id: MessageId) -> Option<(usize, Row)>
     ensures { result ≡ found_in rows.now id.0 }
 {
-    for k in 0..rows.len() {
-        if rows[k].id.0 == id.0 {
-            return Some((k, rows[k]));
-        }
-    }
-    None
+    let k = rows.iter().position(|row| row.id == id)?;
+    Some((k, rows[k]))
 }
 
 // Closes up the rows after k, which goes, puts a blank one after them, and answers how many there are
