@@ -210,9 +210,7 @@ fn close(rows: &mut [Row], k: usize) -> usize
     ensures { (rows.new ≡ closed rows.old k (length rows.old)) × (result ≡ length rows.old - 1) }
 {
     let last = rows.len() - 1;
-    for i in k..last {
-        rows[i] = rows[i + 1];
-    }
+    rows.copy_within(k + 1.., k);
     rows[last] = Row::blank();
     last
 }
