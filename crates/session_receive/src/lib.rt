@@ -66,9 +66,8 @@ enum Answer {
     Ignored,
     Dropped,
     Discarded(usize),
-    Nothing,
-    Ordered(receive_reliable::Message),
-    Message(receive_unreliable::Message),
+    Ordered(Option<receive_reliable::Message>),
+    Message(Option<receive_unreliable::Message>),
     Lent(Stores),
     Digest(u64, u64),
     Usage,
@@ -92,30 +91,11 @@ impl From<receive_unreliable::Arrival> for Answer {
     }
 }
 
-impl From<Option<receive_reliable::Message>> for Answer {
-    fn from(waiting: Option<receive_reliable::Message>) -> Answer {
-        match waiting {
-            Some(m) => Answer::Ordered(m),
-            None => Answer::Nothing,
-        }
-    }
-}
-
-impl From<Option<receive_unreliable::Message>> for Answer {
-    fn from(waiting: Option<receive_unreliable::Message>) -> Answer {
-        match waiting {
-            Some(m) => Answer::Message(m),
-            None => Answer::Nothing,
-        }
-    }
-}
-
-// What a packet holds for a receiver: so many messages, or a piece; or it is for another end.
+// What a packet holds for a receiver: so many messages, or a piece.
 #[derive(Clone, Copy)]
 enum Contents {
     Messages(usize),
     Piece(Slice),
-    Other,
 }
 
 // The receivers at first.
@@ -359,11 +339,11 @@ fn ordered(
             r.reliable = a.state;
             Ok(Answer::from(a.answer?))
         }
-        LOOK => Ok(Answer::from(r.reliable.look(small, lanes)?)),
+        LOOK => Ok(Answer::Ordered(r.reliable.look(small, lanes)?)),
         _ => {
             let a = r.reliable.receive_message();
             r.reliable = a.state;
-            Ok(Answer::from(a.answer))
+            Ok(Answer::Ordered(a.answer))
         }
     }
 }
@@ -395,11 +375,11 @@ fn unordered(
             r.unreliable = a.state;
             Ok(Answer::from(a.answer?))
         }
-        LOOK => Ok(Answer::from(r.unreliable.look(small, lanes)?)),
+        LOOK => Ok(Answer::Message(r.unreliable.look(small, lanes)?)),
         _ => {
             let a = r.unreliable.receive_message();
             r.unreliable = a.state;
-            Ok(Answer::from(a.answer))
+            Ok(Answer::Message(a.answer))
         }
     }
 }
@@ -479,12 +459,12 @@ fn say(page: &mut [u8], at: usize, a: Answer, s: &[u8]) -> usize {
         Answer::Ignored => page::text(page, at, b"ignored; "),
         Answer::Dropped => page::text(page, at, b"dropped; "),
         Answer::Discarded(n) => page::line(page, at, b"discarded #; ", &[n as u64]),
-        Answer::Nothing => page::text(page, at, b"nothing; "),
-        Answer::Ordered(m) => {
+        Answer::Ordered(None) | Answer::Message(None) => page::text(page, at, b"nothing; "),
+        Answer::Ordered(Some(m)) => {
             let b = page::line(page, at, b"message id # in ", &[m.id.0]);
             say_message(page, b, m.store, m.place, m.len, s)
         }
-        Answer::Message(m) => {
+        Answer::Message(Some(m)) => {
             let b = page::text(page, at, b"message in ");
             say_message(page, b, m.store, m.place, m.len, s)
         }
@@ -552,7 +532,7 @@ fn packet(
 fn hand_over(
     r: &mut Receivers,
     t: Turn,
-    c: Contents,
+    c: Option<Contents>,
     time: u64,
     bytes: &[u8],
     messages: &[u64],
@@ -561,29 +541,30 @@ fn hand_over(
     page: &mut [u8],
 ) -> usize {
     match c {
-        Contents::Messages(n) => handed(r, t, n, bytes, messages, small, lanes, page),
-        Contents::Piece(s) => {
+        Some(Contents::Messages(n)) => handed(r, t, n, bytes, messages, small, lanes, page),
+        Some(Contents::Piece(s)) => {
             let numbers = [s.message_id.0, s.slice_index.0, s.num_slices, time];
             let part = packets::bytes_at(bytes, s.place, s.len);
             further(r, t, SLICE, 0, &numbers, part, small, lanes, page)
         }
-        Contents::Other => t.at,
+        None => t.at,
     }
 }
 
-fn contents_for(reliable: bool, p: Packet) -> Contents {
+// What a packet holds, if it is for this end.
+fn contents_for(reliable: bool, p: Packet) -> Option<Contents> {
     match (reliable, p) {
-        (true, Packet::SmallReliable(s)) => Contents::Messages(s.count),
-        (true, Packet::ReliableSlice(s)) => Contents::Piece(s),
-        (false, Packet::SmallUnreliable(s)) => Contents::Messages(s.count),
-        (false, Packet::UnreliableSlice(s)) => Contents::Piece(s),
-        _ => Contents::Other,
+        (true, Packet::SmallReliable(s)) => Some(Contents::Messages(s.count)),
+        (true, Packet::ReliableSlice(s)) => Some(Contents::Piece(s)),
+        (false, Packet::SmallUnreliable(s)) => Some(Contents::Messages(s.count)),
+        (false, Packet::UnreliableSlice(s)) => Some(Contents::Piece(s)),
+        _ => None,
     }
 }
 
 // Says so if a packet is of another channel kind.
-fn say_kind(page: &mut [u8], at: usize, c: Contents) -> usize {
-    if let Contents::Other = c {
+fn say_kind(page: &mut [u8], at: usize, c: Option<Contents>) -> usize {
+    if c.is_none() {
         return page::text(page, at, b"; not for this end; ");
     }
     page::text(page, at, b"; ")
