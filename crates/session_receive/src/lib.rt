@@ -58,6 +58,13 @@ struct Turn {
     at: usize,
 }
 
+// What a call sees of the two stores of a receiver.
+#[derive(Drop)]
+struct Buffers<'a> {
+    small: &'a mut [u8],
+    lanes: &'a mut [u8],
+}
+
 // What a call answers, unless it is refused.
 #[derive(Clone, Copy)]
 enum Answer {
@@ -239,8 +246,7 @@ fn seen(r: &Receivers, t: Turn) -> Stores {
     r.unreliable_lent
 }
 
-// Answers a call with what it sees of the stores. These and the page are lent one by one, here and below:
-// of a struct of them behind a reference, the check has no rule for two fields lent to a call at once.
+// Answers a call with what it sees of the stores.
 fn made(
     r: &mut Receivers,
     t: Turn,
@@ -263,13 +269,15 @@ fn made(
         one(t.reliable, memory::RR_LANES, memory::RU_LANES),
         n.lanes,
     );
-    let small = &mut small[s.start..s.end];
-    let lanes = &mut lanes[l.start..l.end];
+    let mut stores = Buffers {
+        small: &mut small[s.start..s.end],
+        lanes: &mut lanes[l.start..l.end],
+    };
     if t.k == PACKET {
         let time = page::word(numbers, 0);
-        return packet(r, t, time, bytes, messages, ranges, small, lanes, page);
+        return packet(r, t, time, bytes, messages, ranges, &mut stores, page);
     }
-    plain(r, t, numbers, bytes, small, lanes, page)
+    plain(r, t, numbers, bytes, &mut stores, page)
 }
 
 // Answers a call that hands no packet over. The message that it shows or hands out is the one that waited.
@@ -278,13 +286,12 @@ fn plain(
     t: Turn,
     numbers: &[u64],
     bytes: &[u8],
-    small: &mut [u8],
-    lanes: &mut [u8],
+    stores: &mut Buffers,
     page: &mut [u8],
 ) -> usize {
     let before = *r;
-    let answer = called(r, t, numbers, bytes, small, lanes);
-    let s = waiting(before, t.reliable, small, lanes);
+    let answer = called(r, t, numbers, bytes, stores);
+    let s = waiting(before, t.reliable, stores);
     let a = say_answer(page, t.at, answer, s);
     used(r, t.reliable, page, a)
 }
@@ -295,25 +302,28 @@ fn called(
     t: Turn,
     numbers: &[u64],
     bytes: &[u8],
-    small: &mut [u8],
-    lanes: &mut [u8],
+    stores: &mut Buffers,
 ) -> Result<Answer, Refusal> {
     match t.k {
         NEW => new(r, t.reliable, numbers),
         LEND => Ok(lend(r, t.reliable, numbers)),
-        DIGEST => Ok(Answer::Digest(say::digest_bytes(small), say::digest_bytes(lanes))),
+        DIGEST => Ok(Answer::Digest(
+            say::digest_bytes(stores.small),
+            say::digest_bytes(stores.lanes),
+        )),
         USAGE => Ok(Answer::Usage),
         DISCARD => discard(r, page::word(numbers, 0)),
         k => {
             if t.reliable {
-                return ordered(r, k, numbers, bytes, small, lanes);
+                return ordered(r, k, numbers, bytes, stores.small, stores.lanes);
             }
-            unordered(r, k, numbers, bytes, small, lanes)
+            unordered(r, k, numbers, bytes, stores.small, stores.lanes)
         }
     }
 }
 
-// Hands a message or a piece to the reliable receiver, or shows or takes the one that waits.
+// Hands a message or a piece to the reliable receiver, or shows or takes the one that waits. The stores come one
+// by one: of a struct behind a reference, the check has no rule for a field that is changed beside one that is read.
 #[tactic(auto, unfolding(crate::specs::Sound::Sound))]
 fn ordered(
     r: &mut Receivers,
@@ -422,11 +432,11 @@ fn lend(r: &mut Receivers, reliable: bool, numbers: &[u64]) -> Answer {
 }
 
 // The bytes of the message that waits.
-fn waiting<'a>(r: Receivers, reliable: bool, small: &'a [u8], lanes: &'a [u8]) -> &'a [u8] {
+fn waiting<'a>(r: Receivers, reliable: bool, stores: &'a Buffers) -> &'a [u8] {
     if reliable {
-        return r.reliable.message(small, lanes);
+        return r.reliable.message(stores.small, stores.lanes);
     }
-    r.unreliable.message(small, lanes)
+    r.unreliable.message(stores.small, stores.lanes)
 }
 
 // Says the memory in use.
@@ -509,8 +519,7 @@ fn packet(
     bytes: &[u8],
     messages: &mut [u64],
     ranges: &mut [u64],
-    small: &mut [u8],
-    lanes: &mut [u8],
+    stores: &mut Buffers,
     page: &mut [u8],
 ) -> usize {
     let d = packets::read(bytes, messages, ranges);
@@ -520,7 +529,7 @@ fn packet(
             let c = contents_for(t.reliable, p);
             let a = say_kind(page, t.at, c);
             t.at = used(r, t.reliable, page, a);
-            hand_over(r, t, c, time, bytes, messages, small, lanes, page)
+            hand_over(r, t, c, time, bytes, messages, stores, page)
         }
         Err(_) => {
             let a = page::text(page, t.at, b"; ");
@@ -536,16 +545,15 @@ fn hand_over(
     time: u64,
     bytes: &[u8],
     messages: &[u64],
-    small: &mut [u8],
-    lanes: &mut [u8],
+    stores: &mut Buffers,
     page: &mut [u8],
 ) -> usize {
     match c {
-        Some(Contents::Messages(n)) => handed(r, t, n, bytes, messages, small, lanes, page),
+        Some(Contents::Messages(n)) => handed(r, t, n, bytes, messages, stores, page),
         Some(Contents::Piece(s)) => {
             let numbers = [s.message_id.0, s.slice_index.0, s.num_slices, time];
             let part = packets::bytes_at(bytes, s.place, s.len);
-            further(r, t, SLICE, 0, &numbers, part, small, lanes, page)
+            further(r, t, SLICE, 0, &numbers, part, stores, page)
         }
         None => t.at,
     }
@@ -577,25 +585,14 @@ fn handed(
     count: usize,
     bytes: &[u8],
     messages: &[u64],
-    small: &mut [u8],
-    lanes: &mut [u8],
+    stores: &mut Buffers,
     page: &mut [u8],
 ) -> usize {
     let mut at = t.at;
     for i in 0..count {
         let id = packets::id_at(messages, i);
         let s = packets::message_at(bytes, messages, i);
-        at = further(
-            r,
-            Turn { at, ..t },
-            MESSAGE,
-            i,
-            &[id],
-            s,
-            small,
-            lanes,
-            page,
-        );
+        at = further(r, Turn { at, ..t }, MESSAGE, i, &[id], s, stores, page);
     }
     at
 }
@@ -608,11 +605,10 @@ fn further(
     i: usize,
     numbers: &[u64],
     bytes: &[u8],
-    small: &mut [u8],
-    lanes: &mut [u8],
+    stores: &mut Buffers,
     page: &mut [u8],
 ) -> usize {
     t.k = k;
     t.at = packets::numbered(page, t.at, t.n, i);
-    plain(r, t, numbers, bytes, small, lanes, page)
+    plain(r, t, numbers, bytes, stores, page)
 }
