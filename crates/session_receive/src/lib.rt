@@ -42,6 +42,7 @@ impl Model for Receivers {
 }
 
 // The receivers after a call, and the place after the answer.
+// A place and no answer stands beside the state, so it is not `After`.
 #[derive(Clone, Copy)]
 pub struct Told {
     pub receivers: Receivers,
@@ -49,7 +50,8 @@ pub struct Told {
 }
 
 // A call on its way: which receiver it is for, the number of the call, the line, and the place for its
-// answer. A line that is read tells a call by its place in the list of `read`.
+// answer. A line that is read tells a call by its place in the list of `read`. What both receivers have alike stands
+// once, by a bool that the script's word gives: a trait of both would need their promises alike, and they differ.
 #[derive(Clone, Copy)]
 struct Turn {
     reliable: bool,

@@ -38,6 +38,7 @@ impl Model for End {
 }
 
 // The reassembly after a call, and the place after the answer.
+// A place and no answer stands beside the state, so it is not `After`.
 #[derive(Clone, Copy)]
 pub struct Told {
     pub end: End,

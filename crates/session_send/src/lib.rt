@@ -1,5 +1,5 @@
 #![tactic(auto)]
-// Calls on the two senders. A call answers a value, and the page comes in where that is said.
+// Calls on the two senders. A call first gives its answer as a value; a function of its own writes that on the page.
 ghost use Rattle.std.specs.Prelude.{◌≡◌, ◌≤◌, length};
 ghost use Rattle.arguments.specs.Arguments.{leaves, taken_apart_of};
 ghost use Rattle.session_send.specs.Calls.{calls_of};
@@ -53,6 +53,7 @@ impl Model for Senders {
 }
 
 // The senders after a call, and the place after its answer.
+// A place and no answer stands beside the state, so it is not `After`.
 #[derive(Clone, Copy)]
 pub struct Told {
     pub senders: Senders,
@@ -120,7 +121,8 @@ fn all() -> Lent
 }
 
 // The calls, in the order of the numbers below; those of the reliable sender alone stand last. `usage`, at 7,
-// is what is left in `told`.
+// is what is left in `told`. What both senders have alike stands once, by a bool that the script's word gives: a
+// trait of both would need their promises alike, and they differ.
 pub fn read(reliable: bool, line: &[u8], from: usize, numbers: &mut [u64], bytes: &mut [u8]) -> Read
     ensures { leaves result numbers.new bytes.new ≡ taken_apart_of (calls_of reliable) line.now from numbers.old bytes.old }
 {
