@@ -51,7 +51,8 @@ impl From<BytesFault> for Fault {
     }
 }
 
-// A line taken apart: which call of the list, how many numbers and how many bytes.
+// A line taken apart: which call of the list (a number, as `taken_apart_of` has it), how many numbers and how
+// many bytes.
 #[derive(Clone, Copy, Debug, PartialEq, Eq)]
 pub struct Call {
     pub call: usize,
@@ -177,7 +178,8 @@ fn argument(
     one_number(text, most(form), w.end, t, numbers)
 }
 
-// The largest number of a form: a channel, a two-byte count, or how much there is to be lent.
+// The largest number of a form: a channel, a two-byte count, or how much there is to be lent. Forms are letters,
+// as the list of an end's calls has them and `taken_apart_of` reads them.
 #[tactic(auto, unfolding(crate::specs::Arguments::most_of))]
 fn most(form: u8) -> usize
     ensures { result ≡ most_of form }

@@ -104,7 +104,8 @@ pub extern "C" fn bench_read(bytes: &[u8], messages: &mut [u64], ranges: &mut [R
 
 // ---- calls one after the other
 
-// So many steps from a state, each told its number. A step changes the state in place: handed over and back
+// So many steps from a state, each told its number. Three functions, since the type of a closure says what it is
+// lent: nothing, one store or two. A step changes the state in place: handed over and back
 // it would be copied once more.
 fn times<S, F: Fn(&mut S, usize)>(first: S, count: usize, step: F) -> S
     requires { F.IsAlwaysCallable step }

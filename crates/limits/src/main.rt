@@ -39,13 +39,29 @@ const BYTE: u8 = 0xa5;
 
 const WORD: u64 = 0xa5a5_a5a5_a5a5_a5a5;
 
+// The type of a packet, at its number on the wire.
+#[derive(Clone, Copy, Debug, PartialEq, Eq)]
+enum Kind {
+    SmallReliable,
+    SmallUnreliable,
+}
+
+impl From<Kind> for u8 {
+    fn from(kind: Kind) -> u8 {
+        match kind {
+            Kind::SmallReliable => 0,
+            Kind::SmallUnreliable => 1,
+        }
+    }
+}
+
 fn main() {
-    kind(0, 131_075, 16_391, 16_394);
-    kind(1, 65_540, 16_390, 16_393);
+    cases(Kind::SmallReliable, 131_075, 16_391, 16_394);
+    cases(Kind::SmallUnreliable, 65_540, 16_390, 16_393);
 }
 
 // The cases of a type of packet, with the bytes that it takes for the most messages, all empty, and for a long one.
-fn kind(kind: u8, most: usize, shorter: usize, longer: usize) {
+fn cases(kind: Kind, most: usize, shorter: usize, longer: usize) {
     write(kind, 0, 1, MOST_WORDS, SHORTER, shorter);
     write(kind, 0, 1, MOST_WORDS, SHORTER, shorter.saturating_sub(1));
     write(kind, 0, 1, MOST_WORDS, STORE, longer);
@@ -60,7 +76,7 @@ fn kind(kind: u8, most: usize, shorter: usize, longer: usize) {
 
 // One message more is 12, before 1; 13 and 10 come before it, of the table and of the last message. Where the
 // packet has only the most, the last is not judged.
-fn more(kind: u8) {
+fn more(kind: Kind) {
     write(kind, 0, MORE, 0, 0, ROOM);
     write(kind, 0, MORE, 0, 0, 0);
     write(kind, LIMIT, MORE, 0, 0, ROOM);
@@ -71,10 +87,10 @@ fn more(kind: u8) {
 
 // Writes a packet to so many bytes. Its table, of one message more, is lent from a word on; all is 0 but the
 // last length.
-fn write(kind: u8, sequence: u64, count: usize, from: usize, last: usize, room: usize) {
+fn write(kind: Kind, sequence: u64, count: usize, from: usize, last: usize, room: usize) {
     said(
         b"write type # sequence # messages #, ",
-        &[u64::from(kind), sequence, count as u64],
+        &[u64::from(u8::from(kind)), sequence, count as u64],
     );
     let p = Small {
         sequence: Sequence(sequence),
@@ -86,10 +102,10 @@ fn write(kind: u8, sequence: u64, count: usize, from: usize, last: usize, room: 
     put(named(kind, p), from, last, room, &mut t, &mut out);
 }
 
-fn named(kind: u8, p: Small) -> Packet {
+fn named(kind: Kind, p: Small) -> Packet {
     match kind {
-        0 => Packet::SmallReliable(p),
-        _ => Packet::SmallUnreliable(p),
+        Kind::SmallReliable => Packet::SmallReliable(p),
+        Kind::SmallUnreliable => Packet::SmallUnreliable(p),
     }
 }
 
@@ -130,18 +146,18 @@ fn written(r: Result<usize, Refusal>) {
 }
 
 // Reads the most messages, all empty, from so many bytes into a table of so many words.
-fn read(kind: u8, n: usize, words: usize) {
+fn read(kind: Kind, n: usize, words: usize) {
     said(
         b"read type # from # bytes, to # words: ",
-        &[u64::from(kind), n as u64, words as u64],
+        &[u64::from(u8::from(kind)), n as u64, words as u64],
     );
     let mut s = bytes(0);
     let mut t = table(WORD);
     get(kind, n, words, &mut s, &mut t);
 }
 
-fn get(kind: u8, n: usize, words: usize, s: &mut [u8], t: &mut [u64]) {
-    say::text(s, 0, &[kind, 0, 0, 0xff, 0xff]);
+fn get(kind: Kind, n: usize, words: usize, s: &mut [u8], t: &mut [u64]) {
+    say::text(s, 0, &[u8::from(kind), 0, 0, 0xff, 0xff]);
     let k = page::part(n, s);
     let m = page::part(words, t);
     let r = packet::decode(&s[..k], &mut t[..m], [NONE; RANGES], 0);

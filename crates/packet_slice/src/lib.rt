@@ -1,6 +1,7 @@
 #![tactic(auto)]
 // Packets of one piece, read and written: type 2, ReliableSlice, and type 3, UnreliableSlice, which
-// has the same layout and judges its payload less. `reliable` tells the two apart.
+// has the same layout and judges its payload less. `reliable` tells the two apart: a bool, as in the
+// definitions that the promises of the public functions cite (`slice`, `type_byte_of`).
 ghost use Rattle.std.specs.Prelude.{◌≡◌, ◌+◌, ◌≤◌, ◌<◌, length};
 ghost use Rattle.words.specs.Sizes.{LIMIT};
 ghost use Rattle.words.specs.Lists.{splice};

@@ -1,9 +1,10 @@
 #![tactic(auto)]
 // Packets of small messages, read and written: type 0, SmallReliable, and type 1, SmallUnreliable,
-// which is the same without the ids. `ids` tells the two apart.
+// which is the same without the ids. `ids` tells the two apart: a bool, as in the definitions that the
+// promises of the public functions cite (`small`, `type_byte_of`).
 //
 // Messages are named by a lent table, three words for each: id, place, length. Words and no records,
-// since `packet::from_bytes` and `packet::to_bytes` are lent them so. The reader walks the
+// since the C interface lends words (`bench_calls::bench_write`) and a caller of `packet` does. The reader walks the
 // input twice, and each message takes at least a byte of it, so a packet that claims more messages
 // than it has costs no more than its own length. The writer judges the whole table before it writes.
 ghost use Rattle.std.specs.Prelude.{◌≡◌, true, map, ◌+◌, ◌*◌, ◌≤◌, ◌<◌, length, leb};

@@ -231,7 +231,8 @@ fn move_down(table: &mut [Range], from: usize, to: usize, r: Range)
     table[to] = r;
 }
 
-// The ranges before `from`, as far as `to`, move up by one, and another takes the place at `to`.
+// The ranges before `from`, as far as `to`, move up by one, and another takes the place at `to`. A function for each
+// way: one for both would ask which way in its body.
 fn move_up(table: &mut [Range], from: usize, to: usize, r: Range)
     requires { (to ≤ from) × (from < length table.old) }
     ensures { table.new ≡ moved from to r table.old }

@@ -2,6 +2,9 @@
 // The receiving end of an unreliable channel. Small messages are held in cells of one lent store,
 // sliced ones are put together in lanes of the other; messages come out in the order in which they
 // became whole.
+//
+// Its calls have the form of the reliable receiver's, and are no twins: the states differ, and with them the
+// definitions that the promises cite (`look_at`, `part_at`, `message_spot`).
 ghost use Rattle.std.specs.Prelude.{◌≡◌, [], ◌∷◌, ◌++◌, ℕ, ◌≤◌, ◌<◌, length, get_or, true, false, drop, Ok, Some, None};
 ghost use Rattle.words.specs.Choice.{pick};
 ghost use Rattle.words.specs.Sizes.{LANES, LIMIT};

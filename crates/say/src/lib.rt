@@ -28,7 +28,8 @@ pub fn number(page: &mut [u8], at: usize, v: u64) -> usize
     text(page, at, &digits[..k])
 }
 
-// A refusal in words: its number and its name.
+// A refusal in words: its number and its name. Texts and no Display: `Says` sets down all of a text or nothing,
+// and a writer would stop in its middle.
 #[tactic(auto, unfolding(crate::specs::Say::places))]
 fn told(e: Refusal) -> &'static [u8]
     ensures { result.now ≡ refusal_of e }
@@ -69,7 +70,7 @@ pub enum Part {
     Stretch(bool, u8, usize),
 }
 
-// What stands before a part.
+// What stands before a part: of three kinds, as `point_of` tells them apart.
 #[derive(Clone, Copy, Debug, PartialEq, Eq)]
 pub enum Before {
     Nothing,

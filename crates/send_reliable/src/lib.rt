@@ -199,12 +199,8 @@ impl Visit {
 fn find(rows: &[Row], id: MessageId) -> Option<(usize, Row)>
     ensures { result ≡ found_in rows.now id.0 }
 {
-    for k in 0..rows.len() {
-        if rows[k].id.0 == id.0 {
-            return Some((k, rows[k]));
-        }
-    }
-    None
+    let k = rows.iter().position(|row| row.id == id)?;
+    Some((k, rows[k]))
 }
 
 // Closes up the rows after k, which goes, puts a blank one after them, and answers how many there are
@@ -214,9 +210,7 @@ fn close(rows: &mut [Row], k: usize) -> usize
     ensures { (rows.new ≡ closed rows.old k (length rows.old)) × (result ≡ length rows.old - 1) }
 {
     let last = rows.len() - 1;
-    for i in k..last {
-        rows[i] = rows[i + 1];
-    }
+    rows.copy_within(k + 1.., k);
     rows[last] = Row::blank();
     last
 }

@@ -1,5 +1,5 @@
 -- What the private functions give. Assumes nothing.
-use Rattle.std.specs.Prelude.{ℕ, ◌+◌, ◌*◌, ◌≤◌, List, length, Result, Ok, Err}
+use Rattle.std.specs.Prelude.{ℕ, ◌+◌, ◌*◌, ◌≤◌, List, length, Option, None, Some, Result, Ok, Err}
 use Rattle.words.specs.Sizes.{PIECES, LIMIT}
 use Rattle.words.specs.Choice.{pick}
 use Rattle.words.specs.Lists.{total, All}
@@ -17,10 +17,10 @@ use Rattle.send_unreliable.specs.declared.Selection.{Selection}
 
 -- ---- queueing
 
-abbrev pub place_of : Result Place Refusal → Spot
-place_of (Ok place.Cell) = cell
-place_of (Ok place.Lane) = lane
-place_of (Ok place.Dropped) = dropped
+abbrev pub place_of : Result (Option Place) Refusal → Spot
+place_of (Ok (Some place.Cell)) = cell
+place_of (Ok (Some place.Lane)) = lane
+place_of (Ok None) = dropped
 place_of (Err e) = refused (number_of e)
 
 -- ---- a round

@@ -1,6 +1,7 @@
 #![tactic(auto)]
 // The sending end of an unreliable channel. Messages wait in a queue, and a round empties it: what the
-// allowance covers goes once, the rest is dropped for good.
+// allowance covers goes once, the rest is dropped for good. Its calls have the form of the reliable
+// sender's, and are no twins: the states differ, and with them what the promises cite (`QueueGives`).
 //
 // A call takes a state and hands one back. What it does to the state it does in place, in a private
 // method on `&mut self`, so that a refusal is a `?` and no further copy of the state.
@@ -64,12 +65,11 @@ pub type Queued = After<Result<Queue, Refusal>, SendChannelUnreliable>;
 
 pub type Round = After<Result<Written, Refusal>, SendChannelUnreliable>;
 
-// Where a message goes, the lowest free cell or lane, if it isn't dropped.
+// Where a message goes: the lowest free cell or lane.
 #[derive(Clone, Copy)]
 enum Place {
     Cell,
     Lane,
-    Dropped,
 }
 
 // What choosing carries from message to message: what is left of the allowance; how many small and
@@ -171,8 +171,8 @@ impl SendChannelUnreliable {
         }
     }
 
-    // Where a message of n bytes goes, with stores of these lengths.
-    fn find_place(&self, n: usize, small: usize, lanes: usize) -> Result<Place, Refusal>
+    // Where a message of n bytes goes, with stores of these lengths; none where it is dropped.
+    fn find_place(&self, n: usize, small: usize, lanes: usize) -> Result<Option<Place>, Refusal>
         ensures { place_of result ≡ spot_of self.now n small lanes }
     {
         let settings = self.settings;
@@ -183,16 +183,16 @@ impl SendChannelUnreliable {
             return Err(Refusal::TooLong);
         }
         if settings.max_memory_usage_bytes < self.memory_usage_bytes + n {
-            return Ok(Place::Dropped);
+            return Ok(None);
         }
         if n <= SLICE_SIZE {
             if self.small < settings.slots {
-                return Ok(Place::Cell);
+                return Ok(Some(Place::Cell));
             }
             return Err(Refusal::TableFull);
         }
         if self.sliced < settings.lanes {
-            return Ok(Place::Lane);
+            return Ok(Some(Place::Lane));
         }
         Err(Refusal::TableFull)
     }
@@ -209,7 +209,10 @@ impl SendChannelUnreliable {
         let n = message.len();
         let k = self.small;
         let l = self.sliced;
-        let place = self.find_place(n, small.len(), lanes.len())?;
+        let found = self.find_place(n, small.len(), lanes.len())?;
+        let Some(place) = found else {
+            return Ok(Queue::Dropped);
+        };
         match place {
             Place::Cell => {
                 words::write_bytes(small, k * SLICE_SIZE, message);
@@ -220,7 +223,6 @@ impl SendChannelUnreliable {
                 words::write_bytes(lanes, l * size, message);
                 self.sliced = l + 1;
             }
-            Place::Dropped => return Ok(Queue::Dropped),
         }
         self.lens[self.count] = n;
         self.count += 1;

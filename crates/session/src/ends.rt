@@ -41,7 +41,8 @@ impl Model for Ends {
 
 // What is lent to the ends: the stores of small messages and of pieces, the packets of the rounds and
 // their tables, the tables of a packet that is read, and the page for the answers.
-// The buffers themselves stand in it: references in one struct could not be lent on side by side.
+// The buffers themselves stand in it: of references in one struct, the check has no rule for one that is
+// changed beside one that is read, and `receive` lends both.
 #[derive(Drop)]
 pub struct Memory {
     pub small: [u8; memory::ALL_SMALL],

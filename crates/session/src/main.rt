@@ -63,7 +63,8 @@ struct Session {
     script: Script,
 }
 
-// Answers one line after the other until the input ends.
+// Answers one line after the other until the input ends. The range stands for no end: a loop without one would
+// have to be let wait.
 fn run(text: &mut Text, memory: &mut Memory) {
     let mut s = start();
     for _ in 0..u64::MAX {

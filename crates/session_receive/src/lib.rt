@@ -42,6 +42,7 @@ impl Model for Receivers {
 }
 
 // The receivers after a call, and the place after the answer.
+// A place and no answer stands beside the state, so it is not `After`.
 #[derive(Clone, Copy)]
 pub struct Told {
     pub receivers: Receivers,
@@ -49,13 +50,21 @@ pub struct Told {
 }
 
 // A call on its way: which receiver it is for, the number of the call, the line, and the place for its
-// answer. A line that is read tells a call by its place in the list of `read`.
+// answer. A line that is read tells a call by its place in the list of `read`. What both receivers have alike stands
+// once, by a bool that the script's word gives: a trait of both would need their promises alike, and they differ.
 #[derive(Clone, Copy)]
 struct Turn {
     reliable: bool,
     k: usize,
     n: u64,
     at: usize,
+}
+
+// What a call sees of the two stores of a receiver.
+#[derive(Drop)]
+struct Buffers<'a> {
+    small: &'a mut [u8],
+    lanes: &'a mut [u8],
 }
 
 // What a call answers, unless it is refused.
@@ -66,9 +75,8 @@ enum Answer {
     Ignored,
     Dropped,
     Discarded(usize),
-    Nothing,
-    Ordered(receive_reliable::Message),
-    Message(receive_unreliable::Message),
+    Ordered(Option<receive_reliable::Message>),
+    Message(Option<receive_unreliable::Message>),
     Lent(Stores),
     Digest(u64, u64),
     Usage,
@@ -92,30 +100,11 @@ impl From<receive_unreliable::Arrival> for Answer {
     }
 }
 
-impl From<Option<receive_reliable::Message>> for Answer {
-    fn from(waiting: Option<receive_reliable::Message>) -> Answer {
-        match waiting {
-            Some(m) => Answer::Ordered(m),
-            None => Answer::Nothing,
-        }
-    }
-}
-
-impl From<Option<receive_unreliable::Message>> for Answer {
-    fn from(waiting: Option<receive_unreliable::Message>) -> Answer {
-        match waiting {
-            Some(m) => Answer::Message(m),
-            None => Answer::Nothing,
-        }
-    }
-}
-
-// What a packet holds for a receiver: so many messages, or a piece; or it is for another end.
+// What a packet holds for a receiver: so many messages, or a piece.
 #[derive(Clone, Copy)]
 enum Contents {
     Messages(usize),
     Piece(Slice),
-    Other,
 }
 
 // The receivers at first.
@@ -259,8 +248,7 @@ fn seen(r: &Receivers, t: Turn) -> Stores {
     r.unreliable_lent
 }
 
-// Answers a call with what it sees of the stores. These and the page are lent one by one, here and below:
-// of a struct of them behind a reference, the check has no rule for two fields lent to a call at once.
+// Answers a call with what it sees of the stores.
 fn made(
     r: &mut Receivers,
     t: Turn,
@@ -283,13 +271,15 @@ fn made(
         one(t.reliable, memory::RR_LANES, memory::RU_LANES),
         n.lanes,
     );
-    let small = &mut small[s.start..s.end];
-    let lanes = &mut lanes[l.start..l.end];
+    let mut stores = Buffers {
+        small: &mut small[s.start..s.end],
+        lanes: &mut lanes[l.start..l.end],
+    };
     if t.k == PACKET {
         let time = page::word(numbers, 0);
-        return packet(r, t, time, bytes, messages, ranges, small, lanes, page);
+        return packet(r, t, time, bytes, messages, ranges, &mut stores, page);
     }
-    plain(r, t, numbers, bytes, small, lanes, page)
+    plain(r, t, numbers, bytes, &mut stores, page)
 }
 
 // Answers a call that hands no packet over. The message that it shows or hands out is the one that waited.
@@ -298,13 +288,12 @@ fn plain(
     t: Turn,
     numbers: &[u64],
     bytes: &[u8],
-    small: &mut [u8],
-    lanes: &mut [u8],
+    stores: &mut Buffers,
     page: &mut [u8],
 ) -> usize {
     let before = *r;
-    let answer = called(r, t, numbers, bytes, small, lanes);
-    let s = waiting(before, t.reliable, small, lanes);
+    let answer = called(r, t, numbers, bytes, stores);
+    let s = waiting(before, t.reliable, stores);
     let a = say_answer(page, t.at, answer, s);
     used(r, t.reliable, page, a)
 }
@@ -315,25 +304,28 @@ fn called(
     t: Turn,
     numbers: &[u64],
     bytes: &[u8],
-    small: &mut [u8],
-    lanes: &mut [u8],
+    stores: &mut Buffers,
 ) -> Result<Answer, Refusal> {
     match t.k {
         NEW => new(r, t.reliable, numbers),
         LEND => Ok(lend(r, t.reliable, numbers)),
-        DIGEST => Ok(Answer::Digest(say::digest_bytes(small), say::digest_bytes(lanes))),
+        DIGEST => Ok(Answer::Digest(
+            say::digest_bytes(stores.small),
+            say::digest_bytes(stores.lanes),
+        )),
         USAGE => Ok(Answer::Usage),
         DISCARD => discard(r, page::word(numbers, 0)),
         k => {
             if t.reliable {
-                return ordered(r, k, numbers, bytes, small, lanes);
+                return ordered(r, k, numbers, bytes, stores.small, stores.lanes);
             }
-            unordered(r, k, numbers, bytes, small, lanes)
+            unordered(r, k, numbers, bytes, stores.small, stores.lanes)
         }
     }
 }
 
-// Hands a message or a piece to the reliable receiver, or shows or takes the one that waits.
+// Hands a message or a piece to the reliable receiver, or shows or takes the one that waits. The stores come one
+// by one: of a struct behind a reference, the check has no rule for a field that is changed beside one that is read.
 #[tactic(auto, unfolding(crate::specs::Sound::Sound))]
 fn ordered(
     r: &mut Receivers,
@@ -359,11 +351,11 @@ fn ordered(
             r.reliable = a.state;
             Ok(Answer::from(a.answer?))
         }
-        LOOK => Ok(Answer::from(r.reliable.look(small, lanes)?)),
+        LOOK => Ok(Answer::Ordered(r.reliable.look(small, lanes)?)),
         _ => {
             let a = r.reliable.receive_message();
             r.reliable = a.state;
-            Ok(Answer::from(a.answer))
+            Ok(Answer::Ordered(a.answer))
         }
     }
 }
@@ -395,11 +387,11 @@ fn unordered(
             r.unreliable = a.state;
             Ok(Answer::from(a.answer?))
         }
-        LOOK => Ok(Answer::from(r.unreliable.look(small, lanes)?)),
+        LOOK => Ok(Answer::Message(r.unreliable.look(small, lanes)?)),
         _ => {
             let a = r.unreliable.receive_message();
             r.unreliable = a.state;
-            Ok(Answer::from(a.answer))
+            Ok(Answer::Message(a.answer))
         }
     }
 }
@@ -442,11 +434,11 @@ fn lend(r: &mut Receivers, reliable: bool, numbers: &[u64]) -> Answer {
 }
 
 // The bytes of the message that waits.
-fn waiting<'a>(r: Receivers, reliable: bool, small: &'a [u8], lanes: &'a [u8]) -> &'a [u8] {
+fn waiting<'a>(r: Receivers, reliable: bool, stores: &'a Buffers) -> &'a [u8] {
     if reliable {
-        return r.reliable.message(small, lanes);
+        return r.reliable.message(stores.small, stores.lanes);
     }
-    r.unreliable.message(small, lanes)
+    r.unreliable.message(stores.small, stores.lanes)
 }
 
 // Says the memory in use.
@@ -479,12 +471,12 @@ fn say(page: &mut [u8], at: usize, a: Answer, s: &[u8]) -> usize {
         Answer::Ignored => page::text(page, at, b"ignored; "),
         Answer::Dropped => page::text(page, at, b"dropped; "),
         Answer::Discarded(n) => page::line(page, at, b"discarded #; ", &[n as u64]),
-        Answer::Nothing => page::text(page, at, b"nothing; "),
-        Answer::Ordered(m) => {
+        Answer::Ordered(None) | Answer::Message(None) => page::text(page, at, b"nothing; "),
+        Answer::Ordered(Some(m)) => {
             let b = page::line(page, at, b"message id # in ", &[m.id.0]);
             say_message(page, b, m.store, m.place, m.len, s)
         }
-        Answer::Message(m) => {
+        Answer::Message(Some(m)) => {
             let b = page::text(page, at, b"message in ");
             say_message(page, b, m.store, m.place, m.len, s)
         }
@@ -529,8 +521,7 @@ fn packet(
     bytes: &[u8],
     messages: &mut [u64],
     ranges: &mut [u64],
-    small: &mut [u8],
-    lanes: &mut [u8],
+    stores: &mut Buffers,
     page: &mut [u8],
 ) -> usize {
     let d = packets::read(bytes, messages, ranges);
@@ -540,7 +531,7 @@ fn packet(
             let c = contents_for(t.reliable, p);
             let a = say_kind(page, t.at, c);
             t.at = used(r, t.reliable, page, a);
-            hand_over(r, t, c, time, bytes, messages, small, lanes, page)
+            hand_over(r, t, c, time, bytes, messages, stores, page)
         }
         Err(_) => {
             let a = page::text(page, t.at, b"; ");
@@ -552,38 +543,38 @@ fn packet(
 fn hand_over(
     r: &mut Receivers,
     t: Turn,
-    c: Contents,
+    c: Option<Contents>,
     time: u64,
     bytes: &[u8],
     messages: &[u64],
-    small: &mut [u8],
-    lanes: &mut [u8],
+    stores: &mut Buffers,
     page: &mut [u8],
 ) -> usize {
     match c {
-        Contents::Messages(n) => handed(r, t, n, bytes, messages, small, lanes, page),
-        Contents::Piece(s) => {
+        Some(Contents::Messages(n)) => handed(r, t, n, bytes, messages, stores, page),
+        Some(Contents::Piece(s)) => {
             let numbers = [s.message_id.0, s.slice_index.0, s.num_slices, time];
             let part = packets::bytes_at(bytes, s.place, s.len);
-            further(r, t, SLICE, 0, &numbers, part, small, lanes, page)
+            further(r, t, SLICE, 0, &numbers, part, stores, page)
         }
-        Contents::Other => t.at,
+        None => t.at,
     }
 }
 
-fn contents_for(reliable: bool, p: Packet) -> Contents {
+// What a packet holds, if it is for this end.
+fn contents_for(reliable: bool, p: Packet) -> Option<Contents> {
     match (reliable, p) {
-        (true, Packet::SmallReliable(s)) => Contents::Messages(s.count),
-        (true, Packet::ReliableSlice(s)) => Contents::Piece(s),
-        (false, Packet::SmallUnreliable(s)) => Contents::Messages(s.count),
-        (false, Packet::UnreliableSlice(s)) => Contents::Piece(s),
-        _ => Contents::Other,
+        (true, Packet::SmallReliable(s)) => Some(Contents::Messages(s.count)),
+        (true, Packet::ReliableSlice(s)) => Some(Contents::Piece(s)),
+        (false, Packet::SmallUnreliable(s)) => Some(Contents::Messages(s.count)),
+        (false, Packet::UnreliableSlice(s)) => Some(Contents::Piece(s)),
+        _ => None,
     }
 }
 
 // Says so if a packet is of another channel kind.
-fn say_kind(page: &mut [u8], at: usize, c: Contents) -> usize {
-    if let Contents::Other = c {
+fn say_kind(page: &mut [u8], at: usize, c: Option<Contents>) -> usize {
+    if c.is_none() {
         return page::text(page, at, b"; not for this end; ");
     }
     page::text(page, at, b"; ")
@@ -596,25 +587,14 @@ fn handed(
     count: usize,
     bytes: &[u8],
     messages: &[u64],
-    small: &mut [u8],
-    lanes: &mut [u8],
+    stores: &mut Buffers,
     page: &mut [u8],
 ) -> usize {
     let mut at = t.at;
     for i in 0..count {
         let id = packets::id_at(messages, i);
         let s = packets::message_at(bytes, messages, i);
-        at = further(
-            r,
-            Turn { at, ..t },
-            MESSAGE,
-            i,
-            &[id],
-            s,
-            small,
-            lanes,
-            page,
-        );
+        at = further(r, Turn { at, ..t }, MESSAGE, i, &[id], s, stores, page);
     }
     at
 }
@@ -627,11 +607,10 @@ fn further(
     i: usize,
     numbers: &[u64],
     bytes: &[u8],
-    small: &mut [u8],
-    lanes: &mut [u8],
+    stores: &mut Buffers,
     page: &mut [u8],
 ) -> usize {
     t.k = k;
     t.at = packets::numbered(page, t.at, t.n, i);
-    plain(r, t, numbers, bytes, small, lanes, page)
+    plain(r, t, numbers, bytes, stores, page)
 }

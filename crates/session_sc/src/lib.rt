@@ -38,6 +38,7 @@ impl Model for End {
 }
 
 // The reassembly after a call, and the place after the answer.
+// A place and no answer stands beside the state, so it is not `After`.
 #[derive(Clone, Copy)]
 pub struct Told {
     pub end: End,
@@ -55,7 +56,7 @@ pub fn start() -> End
     }
 }
 
-// The calls, in the order of `answer`: a line that is read tells a call by its place in the list.
+// The calls, in the order of the numbers below, and `digest`: a line that is read tells a call by its place in the list.
 pub fn read(line: &[u8], from: usize, numbers: &mut [u64], bytes: &mut [u8]) -> Read
     ensures { leaves result numbers.new bytes.new ≡ taken_apart_of (ascii "new nn slice nb lend E digest -") line.now from numbers.old bytes.old }
 {
@@ -67,6 +68,13 @@ pub fn read(line: &[u8], from: usize, numbers: &mut [u64], bytes: &mut [u8]) -> 
         bytes,
     )
 }
+
+// The call numbers stay `usize`: `lent_after_of`, in the contract of `call`, names them so.
+const NEW: usize = 0;
+
+const SLICE: usize = 1;
+
+const LEND: usize = 2;
 
 // Makes the k-th call and answers it.
 pub fn call(
@@ -99,9 +107,9 @@ fn answer(
     ensures { Valid result.end.state × (result.end.lane ≡ lent_after_of k numbers.now e.lane) }
 {
     match k {
-        0 => new(e, numbers, page, at),
-        1 => slice(e, page::word(numbers, 0), bytes, lane, page, at),
-        2 => lend(e, numbers, page, at),
+        NEW => new(e, numbers, page, at),
+        SLICE => slice(e, page::word(numbers, 0), bytes, lane, page, at),
+        LEND => lend(e, numbers, page, at),
         _ => digest(e, lane, page, at),
     }
 }

@@ -1,5 +1,5 @@
 #![tactic(auto)]
-// Calls on the two senders. A call answers a value, and the page comes in where that is said.
+// Calls on the two senders. A call first gives its answer as a value; a function of its own writes that on the page.
 ghost use Rattle.std.specs.Prelude.{◌≡◌, ◌≤◌, length};
 ghost use Rattle.arguments.specs.Arguments.{leaves, taken_apart_of};
 ghost use Rattle.session_send.specs.Calls.{calls_of};
@@ -53,6 +53,7 @@ impl Model for Senders {
 }
 
 // The senders after a call, and the place after its answer.
+// A place and no answer stands beside the state, so it is not `After`.
 #[derive(Clone, Copy)]
 pub struct Told {
     pub senders: Senders,
@@ -119,7 +120,9 @@ fn all() -> Lent
     }
 }
 
-// The calls, each at its number in `made` and `plain`; those of the reliable sender alone stand last.
+// The calls, in the order of the numbers below; those of the reliable sender alone stand last. `usage`, at 7,
+// is what is left in `told`. What both senders have alike stands once, by a bool that the script's word gives: a
+// trait of both would need their promises alike, and they differ.
 pub fn read(reliable: bool, line: &[u8], from: usize, numbers: &mut [u64], bytes: &mut [u8]) -> Read
     ensures { leaves result numbers.new bytes.new ≡ taken_apart_of (calls_of reliable) line.now from numbers.old bytes.old }
 {
@@ -141,8 +144,25 @@ pub fn read(reliable: bool, line: &[u8], from: usize, numbers: &mut [u64], bytes
     )
 }
 
-// The number of `digest`, which sees all that a sender has.
+// The call numbers stay `usize`: `seen_by`, in the contract of `call`, names them so.
+const NEW: usize = 0;
+
+const SEND: usize = 1;
+
+const ROUND: usize = 2;
+
+const AVAILABLE: usize = 3;
+
+const CAN_SEND: usize = 4;
+
+const LEND: usize = 5;
+
+// It sees all that a sender has.
 const DIGEST: usize = 6;
+
+const ACK: usize = 8;
+
+const ACK_SLICE: usize = 9;
 
 // How many packets the last round of a sender left.
 pub fn packets(s: Senders, reliable: bool) -> usize
@@ -283,11 +303,11 @@ impl Senders {
         room: &mut Room,
     ) -> Answer {
         match k {
-            0 => self.renew(reliable, numbers),
-            1 => self.send(reliable, bytes, stores),
-            2 => self.round(reliable, numbers, stores, room),
-            8 => self.ack(MessageId(page::word(numbers, 0))),
-            9 => self.ack_slice(
+            NEW => self.renew(reliable, numbers),
+            SEND => self.send(reliable, bytes, stores),
+            ROUND => self.round(reliable, numbers, stores, room),
+            ACK => self.ack(MessageId(page::word(numbers, 0))),
+            ACK_SLICE => self.ack_slice(
                 MessageId(page::word(numbers, 0)),
                 SliceIndex(page::word(numbers, 1)),
             ),
@@ -299,9 +319,9 @@ impl Senders {
     // What a call that changes no sender answers.
     fn told(&self, reliable: bool, k: usize, numbers: &[u64]) -> Said {
         match k {
-            3 => Said::Available(self.available(reliable)),
-            4 => Said::Can(self.can_send(reliable, page::size(numbers, 0))),
-            5 => Said::Lent(
+            AVAILABLE => Said::Available(self.available(reliable)),
+            CAN_SEND => Said::Can(self.can_send(reliable, page::size(numbers, 0))),
+            LEND => Said::Lent(
                 page::word(numbers, 0),
                 page::word(numbers, 1),
                 page::word(numbers, 2),

@@ -28,6 +28,7 @@ pub struct Lent {
 }
 
 // What is lent after a call, and the place after the answer.
+// A place and no answer stands beside the state, so it is not `After`.
 #[derive(Clone, Copy, Debug, PartialEq, Eq)]
 pub struct Told {
     pub lent: Lent,

@@ -1,7 +1,7 @@
 -- Laws of tables of which an entry or a run of entries is put anew, or one is taken out. Nothing here knows a size or a record.
 -- Assumes nothing.
 use Prim.Native.Nat.{ℕ, zero, suc, ◌+◌, ◌-◌, ◌*◌, ◌≤◌, ◌<◌}
-use mathlib.Core.Path.{◌≡◌, refl, sym, ap, ◌∙◌}
+use mathlib.Core.Path.{◌≡◌, refl, ap, ◌∙◌}
 use mathlib.Core.Bool.{Bool, false}
 use mathlib.Core.List.{List, [], ◌∷◌}
 use native.Mathlib.Nat.{not-suc-le-zero, le_of_suc-le-suc, suc-mul, mul-le-mul_right}
@@ -9,9 +9,9 @@ use native.Mathlib.Omega.{arith}
 use borrow.Author.Tests.{ltb-true, ltb-false}
 use lib.Dec.{ltb}
 use lib.ListN.{length, get_or, set, take, drop, replicate, length-set, length-drop}
-use lib.Seq.{paste, paste-zero, paste-suc, length-paste, get_or-drop, take-set-le, take-set-lt, drop-set-add}
+use lib.Seq.{paste, length-paste, take-set-le, take-set-lt, drop-set-add}
 use Rattle.words.specs.Lists.{first, total, splice, without, All, Pairs}
-use Rattle.words.proofs.Lists.{all_map, all-at, all_both, paste-past, live-less}
+use Rattle.words.proofs.Lists.{all_map, all-at, all_both, live-less}
 use Rattle.words.proofs.Tables.{by-test, part-before, part-after}
 
 module _ {A : Type 0} where
@@ -99,27 +99,7 @@ module _ {A : Type 0} where
   pub part-set : (a n i : ℕ) (v : A) (xs : List A) → i < n → take n (drop a (set xs (a + i) v)) ≡ set (take n (drop a xs)) i v
   part-set a n i v xs h = rw (drop-set-add a xs i v, take-set-lt n (drop a xs) i v h)
 
-  -- ---- closing the gap at k: those after it, up to the one at i, are one place lower
-
-  pub close-none : (o : List A) (k : ℕ) → o ≡ paste o k (drop (suc k) o) (k - k)
-  close-none o k = let e : k - k ≡ 0 = omega arith in paste-zero o k (drop (suc k) o) ∙ ap (λ (n : ℕ). paste o k (drop (suc k) o) n) (sym e)
-
-  close-step : (o : List A) (k m : ℕ) (d : A) → k + m + 1 < length o
-      → set (paste o k (drop (suc k) o) m) (k + m) (get_or (paste o k (drop (suc k) o) m) (k + m + 1) d) ≡ paste o k (drop (suc k) o) (suc m)
-  close-step o k m d h =
-      let r : m < length (drop (suc k) o) = simp length-drop (omega arith) in
-      let e : k + m + 1 ≡ suc k + m = omega arith in
-      let g : get_or (paste o k (drop (suc k) o) m) (k + m + 1) d ≡ get_or (drop (suc k) o) m d =
-      paste-past o k (drop (suc k) o) m (k + m + 1) d (omega arith) (omega arith) (omega arith) ∙ ap (λ (j : ℕ). get_or o j d) e ∙ sym (get_or-drop (suc k) o m d) in
-      ap (set (paste o k (drop (suc k) o) m) (k + m)) g ∙ paste-suc o k (drop (suc k) o) m d (omega arith) r
-
-  pub close_more : (o : List A) (k i : ℕ) (d : A) → k ≤ i → i + 1 < length o
-      → set (paste o k (drop (suc k) o) (i - k)) i (get_or (paste o k (drop (suc k) o) (i - k)) (i + 1) d) ≡ paste o k (drop (suc k) o) (i + 1 - k)
-  close_more o k i d h l =
-      let p : List A = paste o k (drop (suc k) o) (i - k) in
-      let e : k + (i - k) ≡ i = omega arith in
-      let f : i + 1 - k ≡ suc (i - k) = omega arith in
-      ap (λ (j : ℕ). set p j (get_or p (j + 1) d)) (sym e) ∙ close-step o k (i - k) d (omega arith) ∙ ap (λ (n : ℕ). paste o k (drop (suc k) o) n) (sym f)
+  -- ---- closing the gap at k
 
   -- the first n of the table, closed up, with another entry after them
   module _ (o : List A) (k n : ℕ) (z : A) (low : k < n) (long : n ≤ length o) where

@@ -1,14 +1,13 @@
--- Laws of `splice`: two in a row, its length, its parts, one element more. Assumes nothing.
-use Prim.Native.Nat.{ℕ, suc, ◌+◌, ◌≤◌, ◌<◌}
+-- Laws of `splice`: two in a row, its length, its parts, a part that is written over. Assumes nothing.
+use Prim.Native.Nat.{ℕ, suc, ◌+◌, ◌≤◌}
 use mathlib.Core.Path.{◌≡◌, refl, sym, ap, ◌∙◌}
 use mathlib.Core.List.{List, [], ◌∷◌, ◌++◌}
 use native.Mathlib.Omega.{arith}
 use native.Mathlib.Nat.{add-zero, add-suc, suc-add}
-use native.Mathlib.Numerals.{add-one}
-use lib.ListN.{length, get_or, set, take, drop, length-set}
+use lib.ListN.{length, set, take, drop, length-set}
 use borrow.Rule.Slice.PartMut.{put_mid}
 use Rattle.std.proofs.lemmas.Slice.{put_mid-paste}
-use lib.Seq.{take-suc, take_all, sets, sets-eq, length-take-le, take-set-le, drop-set-lt}
+use lib.Seq.{take_all, sets, sets-eq, take-set-le, drop-set-lt}
 use Rattle.words.specs.Lists.{splice}
 
 module _ {A : Type 0} where
@@ -22,14 +21,6 @@ module _ {A : Type 0} where
   unfolding splice
   splice-splice at [] bs s = rw add-zero
   splice-splice at (a ∷ xs) bs s = rw (add-suc, ← suc-add) (splice-splice (suc at) xs bs (set s at a))
-
-  -- one element more, as a loop that copies meets it
-  pub splice-take : (at : ℕ) (src s : List A) (i : ℕ) (d : A) → i < length src
-      → set (splice at (take i src) s) (at + i) (get_or src i d) ≡ splice at (take (i + 1) src) s
-  unfolding splice
-  splice-take at src s i d h =
-      let l : length (take i src) ≡ i = length-take-le i src (omega arith) in
-      rw (add-one, take-suc src i d h, ← splice-splice, l)
 
   -- what is before it, and what is after it
   pub take-splice : (n at : ℕ) (bs s : List A) → n ≤ at → take n (splice at bs s) ≡ take n s
@@ -58,15 +49,3 @@ module _ {A : Type 0} where
       put_mid-paste at k s ys bs (length bs) e (sym n) refl
       ∙ ap (λ (l : List A). take at s ++ l ++ drop (at + length bs) s) (take_all (length bs) bs (omega arith))
       ∙ sym (splice-eq at bs s h)
-
-  -- a loop that copies: before the first turn, after each, and at the end
-  pub copy-none : (at : ℕ) (src s : List A) → s ≡ splice at (take 0 src) s
-  unfolding splice
-  copy-none at src s = refl
-
-  pub copy_more : (at : ℕ) (src s out : List A) (i : ℕ) (d : A) → i < length src → out ≡ splice at (take i src) s
-      → set out (at + i) (get_or src i d) ≡ splice at (take (i + 1) src) s
-  copy_more at src s out i d h e = rw e (splice-take at src s i d h)
-
-  pub copy-all : (at : ℕ) (src s out : List A) (i : ℕ) → length src ≤ i → out ≡ splice at (take i src) s → out ≡ splice at src s
-  copy-all at src s out i h e = e ∙ ap (λ (l : List A). splice at l s) (take_all i src h)

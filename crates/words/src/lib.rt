@@ -1,6 +1,6 @@
 #![tactic(auto)]
 // The words that every crate of the transport shares: sizes by name, the kinds of numbers, the
-// refusals, and two walks over lent memory.
+// refusals, an answer with the state after it, and two helpers over lent memory.
 ghost use Rattle.std.specs.Prelude.{◌≡◌, ◌+◌, ◌≤◌, length};
 ghost use Rattle.words.specs.Refusal.{number_of};
 ghost use Rattle.words.specs.Lists.{splice, lowest_free_of};

@@ -3,7 +3,7 @@ use mathlib.Core.Path.{◌≡◌, sym, ap, ◌∙◌}
 use native.Mathlib.Omega.{arith}
 use lib.ListN.{length}
 use Rattle.std.proofs.lemmas.Result.{err_from_is_err_and}
-use Rattle.std.specs.Prelude.{Ok}
+use Rattle.std.specs.Prelude.{Ok, Some}
 use Rattle.channel.proofs.Good.{lane-end, lane-within}
 use Rattle.send_unreliable.specs.Fields.{state_of}
 use Rattle.send_unreliable.specs.Sender.{cell, lane, spot_of}
@@ -15,10 +15,10 @@ use Rattle.send_unreliable.proofs.SendChannelUnreliable.queue.Goals.{In-Cell, In
 
 -- the spot of the message
 to_cell : (c : In-Cell) → (let a = c.args in spot_of (state_of c.self.inside) (length a.message.now) (length a.small.now) (length a.lanes.now) ≡ cell)
-to_cell c = rw (← c.self.view_is) at (sym c.find_place.ensures ∙ ap place_of (c.in_ok-place.was ∙ ap Ok c.in-Cell.is))
+to_cell c = rw (← c.self.view_is) at (sym c.find_place.ensures ∙ ap place_of (c.in_ok-found.was ∙ ap Ok (c.in-Some.is ∙ ap Some c.in-Cell.is)))
 
 to-lane : (c : In-Lane) → (let a = c.args in spot_of (state_of c.self.inside) (length a.message.now) (length a.small.now) (length a.lanes.now) ≡ lane)
-to-lane c = rw (← c.self.view_is) at (sym c.find_place.ensures ∙ ap place_of (c.in_ok-place.was ∙ ap Ok c.in-Lane.is))
+to-lane c = rw (← c.self.view_is) at (sym c.find_place.ensures ∙ ap place_of (c.in_ok-found.was ∙ ap Ok (c.in-Some.is ∙ ap Some c.in-Lane.is)))
 
 pub write_bytes-self-inside-requires : goal.write_bytes-self-inside-requires
 write_bytes-self-inside-requires c =
@@ -44,20 +44,20 @@ put c =
     let v = c.self.invariant in
     elim c.match-place.branch [
       | in-Cell w ↦
-          let h = rw (← c.self.view_is) at (sym c.find_place.ensures ∙ ap place_of (c.in_ok-place.was ∙ ap Ok w.in-Cell.is)) in
+          let h = rw (← c.self.view_is) at (sym c.find_place.ensures ∙ ap place_of (c.in_ok-found.was ∙ ap Ok (c.in-Some.is ∙ ap Some w.in-Cell.is))) in
           rw (w.small-is, w.lanes-is, w.self-inside-is) (put-cell s v a.message.now a.small.now a.lanes.now _ h w.write_bytes-self-inside.ensures.1)
       | in-Lane w ↦
-          let h = rw (← c.self.view_is) at (sym c.find_place.ensures ∙ ap place_of (c.in_ok-place.was ∙ ap Ok w.in-Lane.is)) in
+          let h = rw (← c.self.view_is) at (sym c.find_place.ensures ∙ ap place_of (c.in_ok-found.was ∙ ap Ok (c.in-Some.is ∙ ap Some w.in-Lane.is))) in
           rw (w.small-is, w.lanes-is, w.self-inside-is) (put-lane s v a.message.now a.small.now a.lanes.now _ h w.write_bytes-self-inside-in-Lane.ensures.1)
     ]
 
-pub returns-in_err-place : goal.returns-in_err-place
-returns-in_err-place c =
+pub returns-in_err-found : goal.returns-in_err-found
+returns-in_err-found c =
     let p = err_from_is_err_and c.from_residual.result c.from_residual.ensures.1 in
-    rw (p.1, p.2) (queue-refused _ (rw c.self.view_is at c.self.invariant) _ _ _ _ (sym c.find_place.ensures ∙ ap place_of c.in_err-place.was))
+    rw (p.1, p.2) (queue-refused _ (rw c.self.view_is at c.self.invariant) _ _ _ _ (sym c.find_place.ensures ∙ ap place_of c.in_err-found.was))
 
-pub returns-in-Dropped : goal.returns-in-Dropped
-returns-in-Dropped c = queue-dropped _ (rw c.self.view_is at c.self.invariant) _ _ _ (sym c.find_place.ensures ∙ ap place_of (c.in_ok-place.was ∙ ap Ok c.in-Dropped.is))
+pub returns-in_default : goal.returns-in_default
+returns-in_default c = queue-dropped _ (rw c.self.view_is at c.self.invariant) _ _ _ (sym c.find_place.ensures ∙ ap place_of (c.in_ok-found.was ∙ ap Ok c.in_default.is))
 
 pub offset_bounds-self-inside-self-inside : goal.offset_bounds-self-inside-self-inside
 offset_bounds-self-inside-self-inside c = omega (arith, (put c).low)
