@@ -1,8 +1,9 @@
 -- A table of ranges by value: how many of its records are lent, and what reading into them makes of the whole. Assumes nothing.
-use Prim.Native.Nat.{ℕ, suc, ◌+◌, ◌≤◌, min}
+use Prim.Native.Nat.{ℕ, suc, ◌+◌, ◌-◌, ◌≤◌, min}
 use mathlib.Core.Path.{◌≡◌, refl, sym, ap, ◌∙◌}
 use mathlib.Core.Bool.{Bool, true, false}
 use mathlib.Core.List.{List, [], ◌∷◌, ◌++◌}
+use native.Mathlib.Nat.{sub-zero}
 use native.Mathlib.Omega.{arith}
 use borrow.Author.Tests.{leb-true, ltb-true, ltb-false}
 use lib.Dec.{leb, ltb}
@@ -11,15 +12,27 @@ use lib.Seq.{length-take-le, set-append_left}
 use Rattle.std.proofs.lemmas.List.{take-append-drop}
 use Rattle.std.specs.Prelude.{Result}
 use Rattle.words.specs.Choice.{pick}
-use Rattle.words.specs.Lists.{splice}
+use Rattle.words.specs.Lists.{splice, reached}
 use Rattle.words.specs.declared.Refusal.{Refusal}
 use Rattle.words.proofs.Tables.{by-test}
 use Rattle.octets.specs.Reader.{Res, ok, fault}
 use Rattle.packet_ack.specs.Ack.{RANGES}
+use Rattle.packet_ack.specs.Steps.{judged_next, unjudged_in, below, to_judge, judged_in}
+use Rattle.packet_ack.specs.declared.Ack.{Ack}
+use Rattle.packet_ack.specs.declared.Judgement.{Judgement}
 use Rattle.packet_ack.specs.declared.Range.{Range}
 use Rattle.packet.specs.declared.Packet as code
 use Rattle.packet.specs.Packet.{Packet, small_reliable, small_unreliable, reliable_slice, unreliable_slice, ack, packet, holds, judged, leaves, ranges_of, DecodeGives}
 use Rattle.packet.specs.Steps.{lent_of, ReadGives}
+
+-- the ranges of an ack, judged as far as the table holds them
+pub judged-all : (p : Ack) (t : List Range) (m : ℕ) {c : ℕ} {j₀ j : Judgement} → c ≡ to_judge p.count (length t) → j₀ ≡ unjudged_in m
+    → j ≡ reached judged_next j₀ (below t c) → j ≡ judged_in t p.count (m - 0)
+unfolding judged_in
+judged-all p t m {c} {j₀} s u e =
+    e ∙ ap (λ (k : ℕ). reached judged_next j₀ (below t k)) s
+    ∙ ap (λ (k : Judgement). reached judged_next k (below t (to_judge p.count (length t)))) u
+    ∙ ap (λ (k : ℕ). reached judged_next (unjudged_in k) (below t (to_judge p.count (length t)))) (sym (sub-zero m))
 
 pub lent-is : (n : ℕ) {r : ℕ} → r ≡ min n RANGES → r ≡ lent_of n
 lent-is n e =

@@ -4,6 +4,7 @@ use Rattle.std.specs.Prelude.{Result, Ok, Err, Option, Some, None}
 use Prim.Native.Nat.{ℕ, ◌+◌, ◌*◌, ◌≤◌, ◌<◌}
 use mathlib.Core.Path.{◌≡◌, refl, ap, ◌∙◌}
 use mathlib.Core.Bool.{Bool, true, false}
+use mathlib.Core.List.{List, []}
 use native.Mathlib.Omega.{arith}
 use borrow.Author.Tests.{lt-ltb, le-ltb, le-leb, lt-leb, eq-eqb, ne_eqb}
 use lib.Dec.{ltb, eqb}
@@ -11,10 +12,11 @@ use Rattle.words.specs.Sizes.{SLICE_SIZE, LIMIT}
 use Rattle.words.specs.Choice.{pick}
 use Rattle.words.specs.Lists.{lowest_free_of}
 use Rattle.channel.specs.Settings.{stores_hold_of}
-use Rattle.receive_reliable.specs.Receive.{lane_of, in_lane_of, is_held, ignores, Outcome, taken, ignored, refused, arrival_of, judged, entry_refusal, message_refusal, MessageSpot, cell, nowhere, message_spot, SliceSpot, opened, fresh, nothing, count_refusal, fresh_refusal, constructor_at}
+use Rattle.receive_reliable.specs.Receive.{lane_of, in_lane_of, is_held, ignores, Outcome, taken, ignored, refused, arrival_of, judged, entry_refusal, message_refusal, MessageSpot, cell, nowhere, message_spot, SliceSpot, opened, fresh, nothing, count_refusal, fresh_refusal, constructor_at, Waiting, look_of, part_at}
 use Rattle.receive_reliable.specs.Steps.{entry_of, told, message_to, lane_for_of, open_of, slice_to, open_lane, fresh_lane, lane_spot}
 use Rattle.receive_reliable.specs.declared.ReceiveChannelReliable.{ReceiveChannelReliable}
 use Rattle.channel.specs.declared.Opened.{Opened}
+use Rattle.receive_reliable.specs.declared.Message.{Message}
 use Rattle.receive_reliable.specs.declared.Held.{Held}
 use Rattle.receive_reliable.specs.declared.Held.TheVariants as held
 use Rattle.receive_reliable.specs.declared.Arrival.{Arrival}
@@ -180,3 +182,13 @@ module _ (s : ReceiveChannelReliable) (l num n : ℕ) (e : n ≡ SLICE_SIZE * (c
   pub other-count : (n ≡ SLICE_SIZE * num → ⊥) → nothing (refused 8) ≡ open_lane s l num
   unfolding open_lane
   other-count h = rw (ne_eqb (constructor_at s l).num_slices num (λ k. h (e ∙ ap (λ (m : ℕ). SLICE_SIZE * m) k)))
+
+-- ---- the part that a look shows
+
+module _ (w : Waiting) (small lane : List ℕ) where
+  pub no_part : (a : Result (Option Message) Refusal) → look_of a ≡ w → ((m : Message) → a ≡ Ok (Some m) → ⊥) → [] ≡ part_at w small lane
+  no_part a e k = empty a k ∙ ap (λ (x : Waiting). part_at x small lane) e where
+    empty : (a : Result (Option Message) Refusal) → ((m : Message) → a ≡ Ok (Some m) → ⊥) → [] ≡ part_at (look_of a) small lane
+    empty (Ok (Some m)) k = absurd (k m refl)
+    empty (Ok None) k = refl
+    empty (Err e) k = refl

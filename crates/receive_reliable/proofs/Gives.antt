@@ -22,7 +22,7 @@ use Rattle.slice_constructor.specs.declared.SliceConstructor.{SliceConstructor}
 use Rattle.slice_constructor.specs.Collect as c
 use Rattle.slice_constructor.proofs.Valid as cv
 use Rattle.slice_constructor.proofs.Part.{piece-refused, piece-good, taken-now, store-back}
-use Rattle.receive_reliable.specs.Receive.{new_of, MadeGives, Outcome, refused, arrival_of, MessageSpot, cell, message_spot, with_message_of, MessageGives, SliceSpot, opened, fresh, nothing, constructor_at, placed, slice_spot, with_lane_of, SliceGives, Waiting, message, none-waiting, refusing, look_of, without_cell, without_lane, TakeGives, Valid}
+use Rattle.receive_reliable.specs.Receive.{new_of, MadeGives, Outcome, refused, arrival_of, MessageSpot, cell, nowhere, message_spot, with_message_of, MessageGives, SliceSpot, opened, fresh, nothing, constructor_at, placed, slice_spot, with_lane_of, SliceGives, Waiting, message, none-waiting, refusing, look_of, without_cell, without_lane, TakeGives, Valid}
 use Rattle.receive_reliable.specs.Steps.{held_in, shown_at, told, message_to, slice_place_of, lane_for_of, whole_of, open_of, slice_to, lane_spot, Fits, piece_refusal}
 use Rattle.receive_reliable.specs.declared.ReceiveChannelReliable.{ReceiveChannelReliable}
 use Rattle.receive_reliable.specs.declared.Arrival.{Arrival}
@@ -109,6 +109,12 @@ lane-told h i o p spot a eo ep e t =
 -- ---- a small message
 
 module _ (s : ReceiveChannelReliable) (v : Valid s) (id : ℕ) (bs small lane : List ℕ) where
+  pub message-left : (i : ℕ) (a : Result Arrival Refusal) → message_to i a ≡ message_spot s id (length bs) (length small) (length lane)
+      → (a ≡ (Ok arrival.Taken) → ⊥) → MessageGives s id bs small lane small (record { answer = a; state = s })
+  message-left i a e k =
+      let n = sym e ∙ not_taken nowhere (cell i) a k in
+      record { answer = rw n; state = rw n; bytes = rw n; valid = v }
+
   pub message-taken : (i : ℕ) (small' : List ℕ) (t : ReceiveChannelReliable) → message_spot s id (length bs) (length small) (length lane) ≡ cell i
       → small' ≡ splice (i * SLICE_SIZE) bs small → t ≡ with_message_of s i id (length bs)
       → MessageGives s id bs small lane small' (record { answer = (Ok arrival.Taken); state = t })

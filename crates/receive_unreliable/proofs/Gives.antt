@@ -3,7 +3,7 @@ use Rattle.std.specs.Prelude.{Result, Ok, Err, Option, Some, None}
 use Prim.Native.Nat.{ℕ, ◌+◌, ◌*◌, ◌≤◌, ◌<◌}
 use mathlib.Core.Path.{◌≡◌, refl, sym, ap, ◌∙◌}
 use mathlib.Core.Bool.{Bool, true, false}
-use mathlib.Core.List.{List, ◌++◌}
+use mathlib.Core.List.{List, [], ◌++◌}
 use native.Mathlib.Omega.{arith}
 use borrow.Author.Tests.{eqb-true, lt-ltb, le-ltb}
 use lib.Dec.{eqb}
@@ -23,7 +23,7 @@ use Rattle.slice_constructor.specs.declared.SliceConstructor.{SliceConstructor}
 use Rattle.slice_constructor.specs.Collect as c
 use Rattle.slice_constructor.proofs.Valid as cv
 use Rattle.slice_constructor.proofs.Part.{piece-refused, piece-good, taken-now, store-back}
-use Rattle.receive_unreliable.specs.Receive.{new_of, MadeGives, constructor_at, Place, at-cell, at-lane, no_place, next_place, Outcome, refused, arrival_of, MessageSpot, cell, message_spot, with_message_of, MessageGives, SliceSpot, opened, fresh, nothing, lane_spot, piece_refusal, slice_spot, judged, with_piece, SliceGives, walk_state, walk_count, at_time, discard_answer, discard_state, DiscardGives, Waiting, message, none-waiting, refusing, shown_at, look_of, look_at, without_cell, without_lane, TakeGives, Valid}
+use Rattle.receive_unreliable.specs.Receive.{new_of, MadeGives, constructor_at, Place, at-cell, at-lane, no_place, next_place, Outcome, refused, arrival_of, MessageSpot, cell, nowhere, message_spot, with_message_of, MessageGives, SliceSpot, opened, fresh, nothing, lane_spot, piece_refusal, slice_spot, judged, with_piece, SliceGives, walk_state, walk_count, at_time, discard_answer, discard_state, DiscardGives, Waiting, message, none-waiting, refusing, shown_at, look_of, look_at, part_at, without_cell, without_lane, TakeGives, Valid}
 use Rattle.receive_unreliable.specs.Steps.{held_of, told, message_to, slice_place_of, lane_for_of, slice_to, Fits}
 use Rattle.receive_unreliable.specs.declared.ReceiveChannelUnreliable.{ReceiveChannelUnreliable}
 use Rattle.receive_unreliable.specs.declared.Arrival.{Arrival}
@@ -65,6 +65,12 @@ lane-told o i p spot a ep e t = sym e ∙ ap (slice_to (lane_for_of o i)) t ∙ 
 -- ---- a small message
 
 module _ (s : ReceiveChannelUnreliable) (v : Valid s) (bs small lane : List ℕ) where
+  pub message-left : (i : ℕ) (a : Result Arrival Refusal) → message_to i a ≡ message_spot s (length bs) (length small) (length lane)
+      → (a ≡ (Ok arrival.Taken) → ⊥) → MessageGives s bs small lane small (record { answer = a; state = s })
+  message-left i a e k =
+      let n = sym e ∙ not_taken nowhere (cell i) a k in
+      record { answer = rw n; state = rw n; bytes = rw n; valid = v }
+
   pub message-taken : (i : ℕ) (small' : List ℕ) (t : ReceiveChannelUnreliable) → message_spot s (length bs) (length small) (length lane) ≡ cell i
       → small' ≡ splice (i * SLICE_SIZE) bs small → t ≡ with_message_of s i (length bs)
       → MessageGives s bs small lane small' (record { answer = (Ok arrival.Taken); state = t })
@@ -274,3 +280,13 @@ module _ (s : ReceiveChannelUnreliable) where
           state = rw (← e) et;
           valid = rw et (without-lane-valid s v l (omega (arith, h.2, v.settings.lanes-most)) h.0 h.1 h.3 h.4);
         }
+
+-- ---- the part that a look shows
+
+module _ (w : Waiting) (small lane : List ℕ) where
+  pub no_part : (a : Result (Option Message) Refusal) → look_of a ≡ w → ((m : Message) → a ≡ Ok (Some m) → ⊥) → [] ≡ part_at w small lane
+  no_part a e k = empty a k ∙ ap (λ (x : Waiting). part_at x small lane) e where
+    empty : (a : Result (Option Message) Refusal) → ((m : Message) → a ≡ Ok (Some m) → ⊥) → [] ≡ part_at (look_of a) small lane
+    empty (Ok (Some m)) k = absurd (k m refl)
+    empty (Ok None) k = refl
+    empty (Err e) k = refl
