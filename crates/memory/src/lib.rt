@@ -10,8 +10,10 @@ pub const FRESH: u8 = 0xa5;
 
 pub const FRESH_WORD: u64 = 0xa5a5_a5a5_a5a5_a5a5;
 
-// The store of small messages of an end: the second sender has the one behind the first, then come the receivers.
+// The store of small messages of an end, and where those of the further ends lie.
 pub const SMALL: usize = SLOTS * SLICE_SIZE;
+
+pub const SU_SMALL: usize = SMALL;
 
 pub const RR_SMALL: usize = 2 * SMALL;
 
@@ -23,6 +25,8 @@ pub const ALL_SMALL: usize = 4 * SMALL;
 pub const LANE: usize = PIECES * SLICE_SIZE;
 
 pub const LANES: usize = words::LANES * LANE;
+
+pub const SU_LANES: usize = LANES;
 
 pub const RR_LANES: usize = 2 * LANES;
 

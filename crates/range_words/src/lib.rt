@@ -5,6 +5,9 @@ ghost use Rattle.range_words.specs.Words.{table_of, set_down};
 
 use packet_ack::{RANGES, Range};
 
+// The words of a whole table.
+pub const WORDS: usize = 2 * RANGES;
+
 // The ranges that some words name, as far as a table goes.
 pub fn from_words(words: &[u64]) -> [Range; RANGES]
     ensures { result ≡ table_of words.now }
