@@ -90,7 +90,7 @@ impl PendingAcks {
         }
     }
 
-    // Whether a sequence is named: the last range that starts at or below it tells.
+    // Whether a sequence is named: the ranges are halved until one is left, and the last that starts at or below it tells.
     pub fn is_named(self, sequence: Sequence) -> Result<bool, Refusal>
         ensures { reply_of result ≡ reply (ranges_of self) sequence.0 }
     {
@@ -99,7 +99,7 @@ impl PendingAcks {
             return Err(Refusal::BadNumber);
         }
         let count = self.count;
-        let k = find_place(&self.ranges[..count], x);
+        let k = halved(&self.ranges[..count], x);
         if k == 0 {
             return Ok(false);
         }
@@ -187,6 +187,14 @@ fn find_place(ranges: &[Range], x: u64) -> usize
     if n == 0 || ranges[n - 1].start <= x {
         return n;
     }
+    halved(ranges, x)
+}
+
+// The same, with no look at the highest first: the ranges are halved until one is left.
+fn halved(ranges: &[Range], x: u64) -> usize
+    requires { Rising 0 ranges.now }
+    ensures { Placed ranges.now x result }
+{
     ranges.partition_point(|r| r.start <= x)
 }
 

@@ -12,14 +12,14 @@ pub returns-then-x-ge-LIMIT : goal.returns-then-x-ge-LIMIT
 returns-then-x-ge-LIMIT c = too_large _ _ c.if-x-ge-LIMIT.true
 
 pub returns-then-k-eq0 : goal.returns-then-k-eq0
-returns-then-k-eq0 c = rw (← c.self.view_is) (says_none _ c.self.invariant.rises _ _ c.if-x-ge-LIMIT.false c.find_place-k.ensures c.if-k-eq0.true)
+returns-then-k-eq0 c = rw (← c.self.view_is) (says_none _ c.self.invariant.rises _ _ c.if-x-ge-LIMIT.false c.halved-k.ensures c.if-k-eq0.true)
 
 pub returns : goal.returns
 returns c =
     let g = state_of c.self.inside in
     let v = c.self.invariant in
-    let p = c.find_place-k.ensures in
+    let p = c.halved-k.ensures in
     let l = p.within in
     let n = count-is g v in
-    let e = get_or-take g.count g.ranges (c.find_place-k.result - 1) (range 0 0) (omega (arith, c.if-k-eq0.false)) in
+    let e = get_or-take g.count g.ranges (c.halved-k.result - 1) (range 0 0) (omega (arith, c.if-k-eq0.false)) in
     rw (← c.self.view_is, ← e) (says _ v.rises _ _ c.if-x-ge-LIMIT.false p (omega (arith, c.if-k-eq0.false)))

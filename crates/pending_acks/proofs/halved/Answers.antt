@@ -1,10 +1,10 @@
--- `pending_acks::find_place` meets its contract: the ranges are parted by the test. Assumes nothing.
+-- `pending_acks::halved` meets its contract: the ranges are parted by the test. Assumes nothing.
 use borrow.Author.Rules.{rules}
 use lib.Dec.{leb}
 use Rattle.std.proofs.lemmas.List.Sorted.{IsPartitionPoint-from_clause}
 use Rattle.packet_ack.specs.declared.Range.{Range}
 use Rattle.pending_acks.proofs.Spots.{parted-by, placed-by}
-use Rattle.pending_acks.proofs.find_place.Goals as goal
+use Rattle.pending_acks.proofs.halved.Goals as goal
 
 pub returns : goal.returns
 returns c =
