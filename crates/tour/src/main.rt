@@ -207,36 +207,46 @@ fn deliver(e: Ends, packet: &[u8], far: &mut Stores) -> Ends {
     };
     say_packet(p);
     match p {
-        Packet::SmallReliable(p) => deliver_small(e, p.count, packet, &messages, far),
-        Packet::ReliableSlice(p) => deliver_piece(e, p, part(packet, p.place, p.len), far),
+        Packet::SmallReliable(p) => deliver_small(
+            e,
+            p.count,
+            packet,
+            &messages,
+            &mut far.small,
+            &far.lanes,
+        ),
+        Packet::ReliableSlice(p) => {
+            let piece = part(packet, p.place, p.len);
+            deliver_piece(e, p, piece, &far.small, &mut far.lanes)
+        }
         _ => e,
     }
 }
 
-// Delivers the small messages of a packet.
+// Delivers the small messages of a packet. The stores are lent one by one, so that the types say which of them
+// may change.
 fn deliver_small(
     e: Ends,
     count: usize,
     packet: &[u8],
     messages: &[u64; MESSAGE_TABLE],
-    far: &mut Stores,
+    small: &mut [u8],
+    lanes: &[u8],
 ) -> Ends {
     let mut ends = e;
     for i in 0..count {
         let id = message_id_at(messages, i);
-        ends = deliver_message(ends, id, message_at(packet, messages, i), far);
+        ends = deliver_message(ends, id, message_at(packet, messages, i), small, lanes);
     }
     ends
 }
 
 // Delivers a small message; the sender hears of it if it was taken. Between two machines the numbers of
 // packets come back in an Ack packet, and the sender's side keeps which messages each packet had.
-fn deliver_message(e: Ends, id: MessageId, message: &[u8], far: &mut Stores) -> Ends
-    ensures { MessageArrives e id.0 (length message.now) (length far.old.small) (length far.old.lanes) result }
+fn deliver_message(e: Ends, id: MessageId, message: &[u8], small: &mut [u8], lanes: &[u8]) -> Ends
+    ensures { MessageArrives e id.0 (length message.now) (length small.old) (length lanes.now) result }
 {
-    let arrived = e
-        .receiver
-        .process_message(id, message, &mut far.small, &far.lanes);
+    let arrived = e.receiver.process_message(id, message, small, lanes);
     let sender = match arrived.answer {
         Ok(Arrival::Taken) => e.sender.process_message_ack(id).state,
         _ => e.sender,
@@ -248,15 +258,15 @@ fn deliver_message(e: Ends, id: MessageId, message: &[u8], far: &mut Stores) -> 
 }
 
 // Delivers a piece of a long message, in the same way.
-fn deliver_piece(e: Ends, p: Slice, piece: &[u8], far: &mut Stores) -> Ends
+fn deliver_piece(e: Ends, p: Slice, piece: &[u8], small: &[u8], lanes: &mut [u8]) -> Ends
     ensures { PieceArrives e p.message_id.0 p.num_slices p.slice_index.0
-        (length piece.now) (length far.old.small) (length far.old.lanes) result }
+        (length piece.now) (length small.now) (length lanes.old) result }
 {
     let id = p.message_id;
     let index = p.slice_index;
     let arrived = e
         .receiver
-        .process_slice(id, index, p.num_slices, piece, &far.small, &mut far.lanes);
+        .process_slice(id, index, p.num_slices, piece, small, lanes);
     let sender = match arrived.answer {
         Ok(Arrival::Taken) => e.sender.process_slice_message_ack(id, index).state,
         _ => e.sender,
