@@ -82,6 +82,8 @@ struct Packing {
 }
 
 impl Row {
+    // Inlined, so that a table of it is filled at once, and not filled and then set entry by entry.
+    #[inline(always)]
     fn blank() -> Row
         ensures { result ≡ no_row }
     {
@@ -95,7 +97,8 @@ impl Row {
 }
 
 impl Item {
-    // No item: what a table has before a round chooses.
+    // No item: what a table has before a round chooses. Inlined, as a blank row is.
+    #[inline(always)]
     pub fn blank() -> Item
         ensures { result ≡ no_item }
     {

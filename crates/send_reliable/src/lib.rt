@@ -152,6 +152,8 @@ impl Row {
         row
     }
 
+    // Inlined, so that a table of it is filled at once, and not filled and then set entry by entry.
+    #[inline(always)]
     fn blank() -> Row
         ensures { result ≡ no_row }
     {
@@ -177,6 +179,8 @@ impl Row {
 }
 
 impl Piece {
+    // Inlined, as a blank row is.
+    #[inline(always)]
     fn blank() -> Piece
         ensures { result ≡ no_piece }
     {
@@ -188,6 +192,8 @@ impl Piece {
 }
 
 impl Visit {
+    // Inlined, as a blank row is.
+    #[inline(always)]
     fn blank() -> Visit
         ensures { result ≡ no_visit }
     {

@@ -16,6 +16,11 @@ module _ {A : Type 0} where
   length-splice at [] s = refl
   length-splice at (b ∷ bs) s = length-splice (suc at) bs (set s at b) ∙ length-set s at b
 
+  pub splice-nothing : (at : ℕ) (bs s : List A) → length bs ≡ 0 → s ≡ splice at bs s
+  unfolding splice
+  splice-nothing at [] s e = refl
+  splice-nothing at (b ∷ bs) s e = absurd (omega arith)
+
   -- two in a row are one
   pub splice-splice : (at : ℕ) (xs bs s : List A) → splice (at + length xs) bs (splice at xs s) ≡ splice at (xs ++ bs) s
   unfolding splice

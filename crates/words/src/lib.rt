@@ -84,7 +84,12 @@ pub fn write_bytes(out: &mut [u8], at: usize, src: &[u8]) -> usize
     requires { at + length src.now ≤ length out.old }
     ensures { (result ≡ at + length src.now) × (out.new ≡ splice at src.now out.old) }
 {
-    let end = at + src.len();
+    // Of nothing the copy would still be a call, which an empty message feels.
+    let n = src.len();
+    if n == 0 {
+        return at;
+    }
+    let end = at + n;
     out[at..end].copy_from_slice(src);
     end
 }
