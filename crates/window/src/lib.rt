@@ -225,10 +225,11 @@ impl Window {
         judge(settings, gone, others, len)
     }
 
-    // What the messages that are kept may take, without the first ones.
-    fn load_without(&self, gone: usize) -> Load
-        requires { gone ≤ self.now.count }
-        ensures { result ≡ load_of (drop gone (kept self.now)) }
+    // What the messages that are kept may take, without the first ones. By value: the compiler then copies the window
+    // past the tests of `step`, and not before them.
+    fn load_without(self, gone: usize) -> Load
+        requires { gone ≤ self.count }
+        ensures { result ≡ load_of (drop gone (kept self)) }
     {
         let mut load = self.load;
         for len in self.lens[..gone].iter() {

@@ -22,13 +22,13 @@ unfolding spot_of queue_refusal
 returns-then-next-ge-LIMIT c = rw (← c.self.view_is) (simp (le-ltb _ _ c.if-oldest-first.false, le-ltb _ _ c.if-next-oldest.false, le-leb _ _ c.if-next-ge-LIMIT.true))
 
 pub judge-requires : goal.judge-requires
-judge-requires c = (c.self.invariant.settings, rw (c.load_without-others.ensures, ← c.self.view_is) (load-bounded _ c.self.invariant (c.args.oldest - c.self.inside.first)))
+judge-requires c = (c.self.invariant.settings, rw c.load_without-others.ensures (load-bounded _ c.self.invariant (c.args.oldest - c.self.inside.first)))
 
 pub returns : goal.returns
 returns c =
     let a = c.args in
     let w = state_of c.self.inside in
-    let others = rw (← c.self.view_is) at c.load_without-others.ensures in
+    let others = c.load_without-others.ensures in
     rw (← c.self.view_is)
     (c.judge.ensures
     ∙ ap (λ (load : Load). judged w.settings (a.oldest - w.first) (plus load (one_of a.len)) a.len) others
