@@ -1,19 +1,19 @@
 -- What judging one message shows, and what judging a whole table comes to: every part is within the store, every number can be said, and
 -- all fit the room. Assumes nothing.
-use Prim.Native.Nat.{ℕ, suc, ◌+◌, ◌-◌, ◌^◌, ◌≤◌, ◌<◌, min}
+use Prim.Native.Nat.{ℕ, suc, ◌+◌, ◌-◌, ◌≤◌, ◌<◌}
 use mathlib.Core.Path.{◌≡◌, refl, sym, ap, ◌∙◌}
 use mathlib.Core.Bool.{Bool, true, false}
 use mathlib.Core.List.{List, [], ◌∷◌}
 use native.Mathlib.Omega.{arith}
-use borrow.Author.Tests.{le-leb, lt-leb}
-use lib.Dec.{leb}
+use borrow.Author.Tests.{lt-ltb, le-ltb, le-leb, lt-leb}
+use lib.Dec.{ltb, leb}
+use Rattle.words.specs.Sizes.{LIMIT}
 use Rattle.words.specs.Choice.{pick}
 use Rattle.words.specs.Lists.{all, total}
 use Rattle.words.proofs.Tests.{leb-same}
 use Rattle.packet_small.specs.Small.{Message}
-use Rattle.octets.specs.Varint.{var_len}
-use Rattle.packet_small.specs.Write.{record_at, listed, stored}
-use Rattle.packet_small.specs.Steps.{id_len_of, message_len, size, record_of}
+use Rattle.packet_small.specs.Write.{record_at, listed, id_said, stored, sayable}
+use Rattle.packet_small.specs.Steps.{message_len, size, record_of}
 
 -- ---- one message
 
@@ -24,20 +24,22 @@ module _ (id place len m : ℕ) where
   pub stored-is : place + len ≤ m → stored m (record_of id place len) ≡ true
   stored-is h = le-leb _ _ h
 
-pick-false : (t : Bool) → pick t false false ≡ false
-pick-false true = refl
-pick-false false = refl
+module _ (ids : Bool) (id place len : ℕ) where
+  pub sayable-len : LIMIT ≤ len → sayable ids (record_of id place len) ≡ false
+  sayable-len h = rw (le-ltb _ _ h) (pick-false (ltb (id_said ids id) LIMIT))
+    where
+      pick-false : (t : Bool) → pick t false false ≡ false
+      pick-false true = refl
+      pick-false false = refl
 
-pick-itself : (t : Bool) → pick t true false ≡ t
-pick-itself true = refl
-pick-itself false = refl
+  pub sayable-id : ids ≡ true → LIMIT ≤ id → sayable ids (record_of id place len) ≡ false
+  sayable-id i h = simp (i, le-ltb _ _ h)
 
-pick-both : (a b c : Bool) → pick (pick a b false) c false ≡ pick a (pick b c false) false
-pick-both true b c = refl
-pick-both false b c = refl
+  pub sayable-both : ids ≡ true → id < LIMIT → len < LIMIT → sayable ids (record_of id place len) ≡ true
+  sayable-both i h g = simp (i, lt-ltb _ _ h, lt-ltb _ _ g)
 
-pub none_yet : (n room : ℕ) → leb (0 + n) room ≡ leb n room
-none_yet n room = ap (λ (k : ℕ). leb k room) (omega arith)
+  pub sayable-none : ids ≡ false → len < LIMIT → sayable ids (record_of id place len) ≡ true
+  sayable-none i g = simp (i, lt-ltb _ _ g)
 
 -- ---- a table, from its i-th message on
 
@@ -65,27 +67,19 @@ module _ (t : List ℕ) (n i : ℕ) where
       unfolding all
       one-passes f = let g : p (record_at t i) ≡ true = ap p (sym r) ∙ f in simp (listed_more h, g) at inv
 
-  -- what is told of those before and of the rest
-  module _ (p : Message → Bool) (b : Bool) {X : Bool} (inv : pick b (all p (listed t i (n - i))) false ≡ X) where
-    pub all-told : n ≤ i → b ≡ X
-    unfolding all
-    all-told h = sym (pick-itself b) ∙ simp (listed-none h) at inv
-
-    pub one-told : {e : Message} → e ≡ record_at t i → i < n → {c : Bool} → c ≡ pick b (p e) false → pick c (all p (listed t (i + 1) (n - (i + 1)))) false ≡ X
-    unfolding all
-    one-told {e} r h w = rw w (rw r (pick-both b (p (record_at t i)) (all p (listed t (i + 1) (n - (i + 1)))) ∙ simp (listed_more h) at inv))
-
-  -- and whether all fit, where what is too long to be counted is too long for the room
-  module _ (ids : Bool) (long room : ℕ) {X : Bool} (inv : leb (long + total (size ids) (listed t i (n - i))) room ≡ X) where
-    pub all_fitted : n ≤ i → leb long room ≡ X
+  -- and whether all fit
+  module _ (ids : Bool) (spare : ℕ) {X : Bool} (inv : leb (total (size ids) (listed t i (n - i))) spare ≡ X) where
+    pub all_fitted : n ≤ i → true ≡ X
     unfolding total
-    all_fitted h = let z : long + 0 ≡ long = omega arith in ap (λ (k : ℕ). leb k room) (sym z) ∙ simp (listed-none h) at inv
+    all_fitted h = sym (le-leb 0 spare (omega arith)) ∙ simp (listed-none h) at inv
 
     module _ {id place len : ℕ} (r : record_of id place len ≡ record_at t i) (h : i < n) where
-      sized : leb (long + (message_len ids id len + total (size ids) (listed t (i + 1) (n - (i + 1))))) room ≡ X
+      sized : leb (message_len ids id len + total (size ids) (listed t (i + 1) (n - (i + 1)))) spare ≡ X
       unfolding total size
       sized = let s : size ids (record_of id place len) ≡ size ids (record_at t i) = ap (size ids) r in rw s (simp (listed_more h) at inv)
 
-      pub one-fitted : room < 2 ^ 64 - 1 → {i' f a b : ℕ} → i' ≡ id_len_of ids id → f ≡ var_len len → a ≡ min (long + (i' + f)) (2 ^ 64 - 1) → b ≡ min (a + len) (2 ^ 64 - 1)
-          → leb (b + total (size ids) (listed t (i + 1) (n - (i + 1)))) room ≡ X
-      one-fitted m {i'} {f} {a} {b} ei ef ea eb = leb-same _ room _ room (λ l. omega arith) (λ l. omega arith) ∙ sized
+      pub one-over : spare < message_len ids id len → false ≡ X
+      one-over g = let o : spare < message_len ids id len + total (size ids) (listed t (i + 1) (n - (i + 1))) = omega arith in sym (lt-leb _ _ o) ∙ sized
+
+      pub one-within : message_len ids id len ≤ spare → {left : ℕ} → left ≡ spare - message_len ids id len → leb (total (size ids) (listed t (i + 1) (n - (i + 1)))) left ≡ X
+      one-within g {left} e = leb-same _ left _ spare (λ l. omega arith) (λ l. omega arith) ∙ sized

@@ -1,13 +1,12 @@
 -- What the parts of the reader and of the writer answer, and the sizes that they add up. No promise of a public function but those that
 -- are for callers that have judged already cites these. Assumes nothing.
-use Rattle.std.specs.Prelude.{ℕ, ◌+◌, ◌≡◌, Bool, true, false, Option, Some, None, List, leb}
-use Rattle.words.specs.Lists.{splice, all, total}
+use Rattle.std.specs.Prelude.{ℕ, ◌+◌, Bool, true, false, List}
+use Rattle.words.specs.Lists.{splice}
 use Rattle.octets.specs.Reader.{Res, ok, fault}
 use Rattle.octets.specs.Varint.{var_len}
 use Rattle.octets.specs.Writer.{Outcome, done, refused}
 use Rattle.packet_small.specs.Small.{Message, words}
-use Rattle.packet_small.specs.Write.{Said, id_said, stored, sayable}
-use Rattle.packet_small.specs.declared.Judged.{Judged}
+use Rattle.packet_small.specs.Write.{Said, id_said}
 
 -- ---- reading
 
@@ -37,12 +36,6 @@ message_len ids id n = id_len_of ids id + (var_len n + n)
 
 unfoldable pub size : Bool → Message → ℕ
 size ids e = message_len ids e.id e.len
-
--- what one walk judges of messages: nothing where the bytes of one are no part of a store of m bytes
-abbrev pub Judges : Bool → ℕ → ℕ → List Message → Option Judged → Type 0
-Judges ids m room es None = false ≡ all (stored m) es
-Judges ids m room es (Some j) =
-    (true ≡ all (stored m) es) × (j.sayable ≡ all (sayable ids) es) × (j.fits ≡ leb (total (size ids) es) room)
 
 -- ---- what is written, and the messages of a table
 

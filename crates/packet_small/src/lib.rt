@@ -7,15 +7,14 @@
 // since the C interface lends words (`bench_calls::bench_write`) and a caller of `packet` does. The reader walks the
 // input twice, and each message takes at least a byte of it, so a packet that claims more messages
 // than it has costs no more than its own length. The writer judges the whole table before it writes.
-ghost use Rattle.std.specs.Prelude.{◌≡◌, true, false, map, ◌+◌, ◌-◌, ◌*◌, ◌^◌, ◌≤◌, ◌<◌, length};
-ghost use Rattle.words.specs.Choice.{pick};
+ghost use Rattle.std.specs.Prelude.{◌≡◌, true, map, ◌+◌, ◌*◌, ◌≤◌, ◌<◌, length, leb};
 ghost use Rattle.words.specs.Sizes.{LIMIT, MAX_MESSAGES};
 ghost use Rattle.words.specs.Lists.{splice, all, total};
 ghost use Rattle.octets.specs.Reader.{num_of, Good};
 ghost use Rattle.octets.specs.Writer.{put_of, left};
 ghost use Rattle.packet_small.specs.Small.{id_of, message, messages, small, RECORD, judged, tabled, told, item_of, read_of};
 ghost use Rattle.packet_small.specs.Write.{type_byte_of, id_bytes, id_said, said_of, message_bytes, messages_bytes, head_bytes, listed, stored, sayable, record_at, small_of, put_small_of};
-ghost use Rattle.packet_small.specs.Steps.{walk_of, filled, head_len, id_len_of, message_len, size, said, record_of, Judges};
+ghost use Rattle.packet_small.specs.Steps.{walk_of, filled, head_len, id_len_of, message_len, size, said, record_of};
 
 use words::{LIMIT, MAX_MESSAGES, MessageId, Refusal, Sequence};
 
@@ -52,7 +51,7 @@ fn get_id(s: &[u8], at: usize, ids: bool) -> Result<(u64, usize), Refusal>
 }
 
 // The message at a place. Inlined into both walks: as a call it hands its answer over in memory, which costs them
-// a third of their time.
+// more than half of their time.
 #[inline(always)]
 fn get_message(s: &[u8], at: usize, ids: bool) -> Result<Message, Refusal>
     ensures { item_of result ≡ message ids s.now at }
@@ -151,42 +150,52 @@ fn message_at(table: &[u64], i: usize) -> Message
     }
 }
 
-// What the messages of a table come to: whether varints can say all their numbers, and whether all,
-// written, fit in some room.
-#[derive(Clone, Copy)]
-struct Judged {
-    sayable: bool,
-    fits: bool,
-}
-
-// Whether varints can say all numbers before, and those of a message.
-fn still_sayable(before: bool, ids: bool, e: Message) -> bool
-    ensures { result ≡ pick before (sayable ids (record_of e.id.0 e.place e.len)) false }
+// Whether the bytes of all messages of a table are parts of a store of m bytes.
+fn all_stored(table: &[u64], count: usize, m: usize) -> bool
+    requires { RECORD * count ≤ length table.now }
+    ensures { result ≡ all (stored m) (listed table.now 0 count) }
 {
-    before && (!ids || e.id.0 < LIMIT) && (e.len as u64) < LIMIT
-}
-
-// Judges the messages of a table in one walk; none where the bytes of one are no part of a store of m bytes.
-fn judge_messages(table: &[u64], count: usize, ids: bool, m: usize, room: usize) -> Option<Judged>
-    requires in_bounds { RECORD * count ≤ length table.now }
-    requires room_bound { room < 2 ^ 64 - 1 }
-    ensures { Judges ids m room (listed table.now 0 count) result }
-{
-    let mut sayable = true;
-    let mut size: usize = 0;
     for i in 0..count {
         let e = message_at(table, i);
         if m < e.place || m - e.place < e.len {
-            return None;
+            return false;
         }
-        sayable = still_sayable(sayable, ids, e);
-        let head = id_len(ids, e.id.0) + octets::form_len(e.len as u64);
-        size = size.saturating_add(head).saturating_add(e.len);
     }
-    Some(Judged {
-        sayable,
-        fits: size <= room,
-    })
+    true
+}
+
+// Whether varints can say all numbers of the messages of a table.
+fn all_sayable(table: &[u64], count: usize, ids: bool) -> bool
+    requires { RECORD * count ≤ length table.now }
+    ensures { result ≡ all (sayable ids) (listed table.now 0 count) }
+{
+    for i in 0..count {
+        let e = message_at(table, i);
+        if ids && LIMIT <= e.id.0 {
+            return false;
+        }
+        if LIMIT <= e.len as u64 {
+            return false;
+        }
+    }
+    true
+}
+
+// Whether all messages of a table, written, fit in some room.
+fn all_fit(table: &[u64], count: usize, ids: bool, room: usize) -> bool
+    requires { RECORD * count ≤ length table.now }
+    ensures { result ≡ leb (total (size ids) (listed table.now 0 count)) room }
+{
+    let mut spare = room;
+    for i in 0..count {
+        let e = message_at(table, i);
+        let head = id_len(ids, e.id.0) + octets::form_len(e.len as u64);
+        if spare < head || spare - head < e.len {
+            return false;
+        }
+        spare = spare - head - e.len;
+    }
+    true
 }
 
 // The type of a packet.
@@ -277,23 +286,19 @@ pub fn put_small(
         × (out.new ≡ left (put_of result) at (small_of ids packet.sequence.0 packet.channel_id table.now packet.count store.now) out.old) }
 {
     let count = packet.count;
-    if table.len() / RECORD < count {
+    if table.len() / RECORD < count || !all_stored(table, count, store.len()) {
         return Err(Refusal::BadStore);
     }
     let sequence = packet.sequence;
-    let head = octets::form_len(sequence.0) + HEAD;
-    let room = out.len().saturating_sub(at);
-    let spare = room.saturating_sub(head);
-    let Some(j) = judge_messages(table, count, ids, store.len(), spare) else {
-        return Err(Refusal::BadStore);
-    };
-    if LIMIT <= sequence.0 || !j.sayable {
+    if LIMIT <= sequence.0 || !all_sayable(table, count, ids) {
         return Err(Refusal::BadNumber);
     }
     if MAX_MESSAGES < count {
         return Err(Refusal::TooLong);
     }
-    if room < head || !j.fits {
+    let room = out.len().saturating_sub(at);
+    let head = octets::form_len(sequence.0) + HEAD;
+    if room < head || !all_fit(table, count, ids, room - head) {
         return Err(Refusal::BufferTooShort);
     }
     let a = write_head(out, at, ids, packet);
