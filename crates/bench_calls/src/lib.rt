@@ -105,52 +105,46 @@ pub extern "C" fn bench_read(bytes: &[u8], messages: &mut [u64], ranges: &mut [R
 // ---- calls one after the other
 
 // So many steps from a state, each told its number. Three functions, since the type of a closure says what it is
-// lent: nothing, one store or two. A step changes the state in place: handed over and back
+// lent: nothing, one store or two. Walk and step change the state in place: handed over and back
 // it would be copied once more.
-fn times<S, F: Fn(&mut S, usize)>(first: S, count: usize, step: F) -> S
+fn times<S, F: Fn(&mut S, usize)>(state: &mut S, count: usize, step: F)
     requires { F.IsAlwaysCallable step }
-    ensures { Times (Steps F.Fn step) count first result }
+    ensures { Times (Steps F.Fn step) count state.old state.new }
 {
-    let mut state = first;
     for k in 0..count {
-        step(&mut state, k);
+        step(state, k);
     }
-    state
 }
 
 // The same, where each step is lent a store.
 fn times_at<S, F: Fn(&mut S, usize, &mut [u8])>(
-    first: S,
+    state: &mut S,
     count: usize,
     store: &mut [u8],
     step: F,
-) -> S
+)
     requires { F.IsAlwaysCallable step }
-    ensures { Times (StepsAt F.Fn step) count (first, store.old) (result, store.new) }
+    ensures { Times (StepsAt F.Fn step) count (state.old, store.old) (state.new, store.new) }
 {
-    let mut state = first;
     for k in 0..count {
-        step(&mut state, k, store);
+        step(state, k, store);
     }
-    state
 }
 
 // The same, where each step is lent two stores.
 fn times_at_both<S, F: Fn(&mut S, usize, &mut [u8], &mut [u8])>(
-    first: S,
+    state: &mut S,
     count: usize,
     small: &mut [u8],
     lanes: &mut [u8],
     step: F,
-) -> S
+)
     requires { F.IsAlwaysCallable step }
-    ensures { Times (StepsAtBoth F.Fn step) count (held first small.old lanes.old) (held result small.new lanes.new) }
+    ensures { Times (StepsAtBoth F.Fn step) count (held state.old small.old lanes.old) (held state.new small.new lanes.new) }
 {
-    let mut state = first;
     for k in 0..count {
-        step(&mut state, k, small, lanes);
+        step(state, k, small, lanes);
     }
-    state
 }
 
 // ---- the reliable sender
@@ -164,30 +158,35 @@ fn sr_queued(
 ) -> SendChannelReliable
     ensures { Filled ends.SrNew (ends.SrQueues message.now) count small.old lanes.old small.new lanes.new result }
 {
-    let made = SendChannelReliable::new(0, LARGEST, 0);
-    times_at_both(made.state, count, small, lanes, |s, _, small, lanes| {
+    let mut state = SendChannelReliable::new(0, LARGEST, 0).state;
+    times_at_both(&mut state, count, small, lanes, |s, _, small, lanes| {
         *s = s.send_message(message, small, lanes).state
-    })
+    });
+    state
 }
 
 // Acknowledges the first messages.
 fn sr_acked(first: SendChannelReliable, count: usize) -> SendChannelReliable
     ensures { Times ends.SrAcks count first result }
 {
-    times(first, count, |s, k| {
+    let mut state = first;
+    times(&mut state, count, |s, k| {
         *s = s.process_message_ack(MessageId(k as u64)).state
-    })
+    });
+    state
 }
 
 // Acknowledges the first pieces of message 0.
 fn sr_acked_pieces(first: SendChannelReliable, count: usize) -> SendChannelReliable
     ensures { Times ends.SrAcksPiece count first result }
 {
-    times(first, count, |s, k| {
+    let mut state = first;
+    times(&mut state, count, |s, k| {
         *s = s
             .process_slice_message_ack(MessageId(0), SliceIndex(k as u64))
             .state
-    })
+    });
+    state
 }
 
 #[unsafe(no_mangle)]
@@ -278,10 +277,11 @@ fn su_queued(
 ) -> SendChannelUnreliable
     ensures { Filled ends.SuNew (ends.SuQueues message.now) count small.old lanes.old small.new lanes.new result }
 {
-    let made = SendChannelUnreliable::new(0, LARGEST);
-    times_at_both(made.state, count, small, lanes, |s, _, small, lanes| {
+    let mut state = SendChannelUnreliable::new(0, LARGEST).state;
+    times_at_both(&mut state, count, small, lanes, |s, _, small, lanes| {
         *s = s.send_message(message, small, lanes).state
-    })
+    });
+    state
 }
 
 #[unsafe(no_mangle)]
@@ -325,12 +325,13 @@ fn rr_received(
 ) -> ReceiveChannelReliable
     ensures { Filled ends.RrNew (ends.RrHears message.now) count small.old lanes.now small.new lanes.now result }
 {
-    let made = ReceiveChannelReliable::new(LARGEST);
-    times_at(made.state, count, small, |s, k, small| {
+    let mut state = ReceiveChannelReliable::new(LARGEST).state;
+    times_at(&mut state, count, small, |s, k, small| {
         *s = s
             .process_message(MessageId(k as u64), message, small, lanes)
             .state
-    })
+    });
+    state
 }
 
 // A receiver that all pieces of message 0 came to, each with the same bytes.
@@ -342,20 +343,23 @@ fn rr_collected(
 ) -> ReceiveChannelReliable
     ensures { Filled ends.RrNew (ends.RrCollects count payload.now) count small.now lanes.old small.now lanes.new result }
 {
-    let made = ReceiveChannelReliable::new(LARGEST);
-    times_at(made.state, count, lanes, |s, k, lanes| {
+    let mut state = ReceiveChannelReliable::new(LARGEST).state;
+    times_at(&mut state, count, lanes, |s, k, lanes| {
         let index = SliceIndex(k as u64);
         *s = s
             .process_slice(MessageId(0), index, count as u64, payload, small, lanes)
             .state
-    })
+    });
+    state
 }
 
 // Takes so many messages out.
 fn rr_taken(first: ReceiveChannelReliable, count: usize) -> ReceiveChannelReliable
     ensures { Times ends.RrTakes count first result }
 {
-    times(first, count, |s, _| *s = s.receive_message().state)
+    let mut state = first;
+    times(&mut state, count, |s, _| *s = s.receive_message().state);
+    state
 }
 
 #[unsafe(no_mangle)]
@@ -399,10 +403,11 @@ fn ru_received(
 ) -> ReceiveChannelUnreliable
     ensures { Filled ends.RuNew (ends.RuHears message.now) count small.old lanes.now small.new lanes.now result }
 {
-    let made = ReceiveChannelUnreliable::new(LARGEST);
-    times_at(made.state, count, small, |s, _, small| {
+    let mut state = ReceiveChannelUnreliable::new(LARGEST).state;
+    times_at(&mut state, count, small, |s, _, small| {
         *s = s.process_message(message, small, lanes).state
-    })
+    });
+    state
 }
 
 // A receiver that all pieces of message 0 came to, each with the same bytes.
@@ -414,20 +419,23 @@ fn ru_collected(
 ) -> ReceiveChannelUnreliable
     ensures { Filled ends.RuNew (ends.RuCollects count payload.now) count small.now lanes.old small.now lanes.new result }
 {
-    let made = ReceiveChannelUnreliable::new(LARGEST);
-    times_at(made.state, count, lanes, |s, k, lanes| {
+    let mut state = ReceiveChannelUnreliable::new(LARGEST).state;
+    times_at(&mut state, count, lanes, |s, k, lanes| {
         let index = SliceIndex(k as u64);
         *s = s
             .process_slice(MessageId(0), index, count as u64, payload, 0, small, lanes)
             .state
-    })
+    });
+    state
 }
 
 // Takes so many messages out.
 fn ru_taken(first: ReceiveChannelUnreliable, count: usize) -> ReceiveChannelUnreliable
     ensures { Times ends.RuTakes count first result }
 {
-    times(first, count, |s, _| *s = s.receive_message().state)
+    let mut state = first;
+    times(&mut state, count, |s, _| *s = s.receive_message().state);
+    state
 }
 
 #[unsafe(no_mangle)]

@@ -8,7 +8,7 @@ use Rattle.bench_calls.proofs.rr_received.Goals as goal
 
 pub returns : goal.returns
 returns c =
-    let made = c.new-made in
+    let made = c.new-state in
     let fills =
     carried-at (λ s m. held s m c.args.lanes.now)
     (λ k s t m m' p.

@@ -8,7 +8,7 @@ use Rattle.bench_calls.proofs.ru_collected.Goals as goal
 
 pub returns : goal.returns
 returns c =
-    let made = c.new-made in
+    let made = c.new-state in
     let fills =
     carried-at (λ s m. held s c.args.small.now m)
     (λ k s t m m' p.

@@ -5,7 +5,7 @@ use Rattle.bench_calls.proofs.sr_queued.Goals as goal
 
 pub returns : goal.returns
 returns c =
-    let made = c.new-made in
+    let made = c.new-state in
     record {
       new = made.result.state;
       made = left made.result made.ensures;

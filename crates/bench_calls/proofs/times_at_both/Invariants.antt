@@ -4,4 +4,4 @@ use Rattle.bench_calls.specs.Calls.{StepsAtBoth}
 use Rattle.bench_calls.proofs.times_at_both.Given as goal
 
 abbrev pub invariant-loop-k : goal.invariant-loop-k
-invariant-loop-k g l = Times (StepsAtBoth g.F.Fn l.step) l.k (held l.fn.first l.fn.small l.fn.lanes) (held l.state l.small l.lanes)
+invariant-loop-k g l = Times (StepsAtBoth g.F.Fn l.step) l.k (held l.fn.state l.fn.small l.fn.lanes) (held l.state l.small l.lanes)
