@@ -166,27 +166,25 @@ fn sr_queued(
 }
 
 // Acknowledges the first messages.
-fn sr_acked(first: SendChannelReliable, count: usize) -> SendChannelReliable
+fn sr_acked(mut first: SendChannelReliable, count: usize) -> SendChannelReliable
     ensures { Times ends.SrAcks count first result }
 {
-    let mut state = first;
-    times(&mut state, count, |s, k| {
+    times(&mut first, count, |s, k| {
         *s = s.process_message_ack(MessageId(k as u64)).state
     });
-    state
+    first
 }
 
 // Acknowledges the first pieces of message 0.
-fn sr_acked_pieces(first: SendChannelReliable, count: usize) -> SendChannelReliable
+fn sr_acked_pieces(mut first: SendChannelReliable, count: usize) -> SendChannelReliable
     ensures { Times ends.SrAcksPiece count first result }
 {
-    let mut state = first;
-    times(&mut state, count, |s, k| {
+    times(&mut first, count, |s, k| {
         *s = s
             .process_slice_message_ack(MessageId(0), SliceIndex(k as u64))
             .state
     });
-    state
+    first
 }
 
 #[unsafe(no_mangle)]
@@ -354,12 +352,11 @@ fn rr_collected(
 }
 
 // Takes so many messages out.
-fn rr_taken(first: ReceiveChannelReliable, count: usize) -> ReceiveChannelReliable
+fn rr_taken(mut first: ReceiveChannelReliable, count: usize) -> ReceiveChannelReliable
     ensures { Times ends.RrTakes count first result }
 {
-    let mut state = first;
-    times(&mut state, count, |s, _| *s = s.receive_message().state);
-    state
+    times(&mut first, count, |s, _| *s = s.receive_message().state);
+    first
 }
 
 #[unsafe(no_mangle)]
@@ -430,12 +427,11 @@ fn ru_collected(
 }
 
 // Takes so many messages out.
-fn ru_taken(first: ReceiveChannelUnreliable, count: usize) -> ReceiveChannelUnreliable
+fn ru_taken(mut first: ReceiveChannelUnreliable, count: usize) -> ReceiveChannelUnreliable
     ensures { Times ends.RuTakes count first result }
 {
-    let mut state = first;
-    times(&mut state, count, |s, _| *s = s.receive_message().state);
-    state
+    times(&mut first, count, |s, _| *s = s.receive_message().state);
+    first
 }
 
 #[unsafe(no_mangle)]
